@@ -14,11 +14,17 @@ most = 200
 -- a certificate's numbers, in this order: subject, issuer, first day, last day, 1 if it may issue, path length
 abbrev pub certificate-at : List ℕ → ℕ → Certificate
 certificate-at xs i = record {
-    subject = getD xs (6 * i) 0; issuer = getD xs (6 * i + 1) 0; not-before = getD xs (6 * i + 2) 0; not-after = getD xs (6 * i + 3) 0; may-issue = eqb (getD xs (6 * i + 4) 0) 1; path-len = getD xs (6 * i + 5) 0 }
+  subject = getD xs (6 * i) 0;
+  issuer = getD xs (6 * i + 1) 0;
+  not-before = getD xs (6 * i + 2) 0;
+  not-after = getD xs (6 * i + 3) 0;
+  may-issue = eqb (getD xs (6 * i + 4) 0) 1;
+  path-len = getD xs (6 * i + 5) 0;
+}
 
 -- the mark of the signature of a under b stands at a n + b, that of an anchor at its number; 1 says yes
 abbrev pub pool : (n : ℕ) → (certificates signatures anchors : List ℕ) → Pool
-pool n cs ss as = record { count = n; certificate = certificate-at cs; signed = λ a b. eqb (getD ss (a * n + b) 0) 1; anchor = λ a. eqb (getD as a 0) 1 }
+pool n cs ss ts = record { count = n; certificate = certificate-at cs; signed = λ a b. eqb (getD ss (a * n + b) 0) 1; anchor = λ a. eqb (getD ts a 0) 1 }
 
 -- each mark is 0 or 1
 unfoldable pub all-marks : List ℕ → Bool

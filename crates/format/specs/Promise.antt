@@ -1,0 +1,27 @@
+-- What is promised of the format, for every depth and greatest length. Each is a statement; a function of the crate has it as its contract. Assumes nothing: these are definitions.
+use mathlib.Core.Path.{_≡_}
+use mathlib.Core.List.{List, [], _∷_, _++_}
+use mathlib.Core.Logic.{_⊎_}
+use Prim.Native.Nat.{ℕ, _≤_}
+use Rattle.format.specs.Elements.{Row, empty, primitive, constructed, framed, Reads}
+
+-- one reading: of all bytes it is decided whether they read as a row, and what they read as is one row only
+abbrev pub One-reading : Type 0
+One-reading =
+    (depth longest : ℕ) (bytes : List ℕ)
+    → ((row : Row) × Reads depth longest bytes row × ((other : Row) → Reads depth longest bytes other → other ≡ row)) ⊎ ((row : Row) → Reads depth longest bytes row → ⊥)
+
+-- an element ends where it ends: if two elements, each with something behind it, are the same bytes, then they have the same tag, the same contents and the same behind them
+abbrev pub Same-front : Type 0
+Same-front = (t u : ℕ) (c e : List ℕ) (r s : List ℕ) → framed t c ++ r ≡ framed u e ++ s → (t ≡ u) × (c ≡ e) × (r ≡ s)
+
+-- what narrower limits take, wider ones read as the same row
+abbrev pub Wider : Type 0
+Wider = (d e m n : ℕ) (bytes : List ℕ) (row : Row) → d ≤ e → m ≤ n → Reads d m bytes row → Reads e n bytes row
+
+-- samples: a row of two, a length written too long, an end too soon, no bytes
+pub record Samples (depth longest : ℕ) : Type 0 where
+  pub two : Reads depth longest (128 ∷ 5 ∷ 1 ∷ 1 ∷ 65 ∷ 2 ∷ 0 ∷ 5 ∷ 2 ∷ 7 ∷ 8 ∷ []) (constructed 128 (primitive 1 (65 ∷ []) (primitive 2 [] empty)) (primitive 5 (7 ∷ 8 ∷ []) empty))
+  pub long : (row : Row) → Reads depth longest (5 ∷ 129 ∷ 2 ∷ 7 ∷ 8 ∷ []) row → ⊥
+  pub short : (row : Row) → Reads depth longest (5 ∷ 3 ∷ 7 ∷ 8 ∷ []) row → ⊥
+  pub nothing : Reads depth longest [] empty

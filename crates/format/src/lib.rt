@@ -1,0 +1,30 @@
+// The format of elements: what is promised of it, each promise on a function of its own.
+ghost use Rattle.format.specs.Promise.{One-reading, Same-front, Wider, Samples};
+
+// All bytes are one row of elements or malformed, and which is decided.
+pub fn one_reading_stands() -> u8
+    ensures { λ _. ⌜ One-reading ⌝ }
+{
+    0
+}
+
+// An element ends where it ends, whatever stands behind it.
+pub fn same_front_stands() -> u8
+    ensures { λ _. ⌜ Same-front ⌝ }
+{
+    0
+}
+
+// What narrower limits take, wider ones read as the same row.
+pub fn wider_stands() -> u8
+    ensures { λ _. ⌜ Wider ⌝ }
+{
+    0
+}
+
+// The samples, eight deep and with lengths of two bytes.
+pub fn samples_stands() -> u8
+    ensures { λ _. ⌜ Samples 8 65535 ⌝ }
+{
+    0
+}
