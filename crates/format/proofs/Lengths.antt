@@ -11,15 +11,12 @@ use Rattle.std.proofs.shelf.Tests.{lt-ltb, le-ltb, cases-lt, cases-eq}
 use Rattle.format.specs.Elements.{written-length}
 
 pub short : (n : ℕ) → n < 128 → written-length n ≡ n ∷ []
-unfolding written-length
 short n h = rw (lt-ltb n 128 h)
 
 pub middle : (n : ℕ) → 128 ≤ n → n < 256 → written-length n ≡ 129 ∷ (n ∷ [])
-unfolding written-length
 middle n h k = rw (le-ltb n 128 h, lt-ltb n 256 k)
 
 pub long : (n : ℕ) → 256 ≤ n → written-length n ≡ 130 ∷ (n / 256 ∷ (n % 256 ∷ []))
-unfolding written-length
 long n h = let k : 128 ≤ n = omega arith in rw (le-ltb n 128 k, le-ltb n 256 h)
 
 -- a written length is one of three shapes

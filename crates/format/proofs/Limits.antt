@@ -27,7 +27,7 @@ pub wider : Wider
 wider d e m n b row h k r = record { well = well-wider row d e m n h k (r .well); writing = r .writing }
 
 pub samples : Samples 8 65535
-unfolding written well-formed framed written-length all-bytes
+unfolding written well-formed framed all-bytes
 samples = record {
   two = record { well = refl; writing = refl };
   long = λ row r. let f = has-front 8 65535 (5 ∷ 129 ∷ 2 ∷ 7 ∷ 8 ∷ []) row r (omega arith) in omega (arith, begins (129 ∷ 2 ∷ 7 ∷ 8 ∷ []) (length (f .contents)) (f .contents ++ f .behind) (front-length-of 65535 5 (129 ∷ 2 ∷ 7 ∷ 8 ∷ []) f) .form);

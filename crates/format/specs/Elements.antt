@@ -13,7 +13,7 @@ pub data Row : Type 0 where
   constructed : (tag : ℕ) (contents : Row) (behind : Row) → Row
 
 -- a length is written in as few bytes as it can be: below 128 itself, below 256 behind 129, else behind 130 its two bytes, the higher first
-unfoldable pub written-length : ℕ → List ℕ
+abbrev pub written-length : ℕ → List ℕ
 written-length n = cond (ltb n 128) (n ∷ []) (cond (ltb n 256) (129 ∷ (n ∷ [])) (130 ∷ (n / 256 ∷ (n % 256 ∷ []))))
 
 -- an element: its tag, the length of its contents, its contents

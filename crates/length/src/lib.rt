@@ -6,7 +6,7 @@ ghost use lib.ListN.{length};
 ghost use Rattle.std.specs.Of.Vec.{vec-items};
 ghost use Rattle.std.specs.Results.{isOk};
 ghost use Rattle.format.specs.Elements.{written-length};
-ghost use Rattle.length.specs.Lengths.{Length-at};
+ghost use Rattle.length.specs.Lengths.{front-length, Reads-length};
 use std::alloc::AllocError;
 
 // A length that was read: its value, and how many bytes it takes.
@@ -31,7 +31,7 @@ impl Length {
 
     // The length at the front of the bytes, or none if no length is written there.
     pub fn read(bytes: &[u8]) -> Option<Length>
-        ensures { λ r. ⌜ Length-at (now (bytes .entry)) r ⌝ }
+        ensures { λ r. ⌜ r ≡ front-length (now (bytes .entry)) ⌝ }
     {
         if bytes.len() < 1 {
             return None;
@@ -94,4 +94,11 @@ impl Length {
         let high = (value / Length::BYTE_END) as u8;
         out.extend_from_slice(&[Length::TWO_BYTES, high, low])
     }
+}
+
+// What is read at the front of bytes is the length that is written there, or none exactly if none is.
+pub fn reads_length_stands() -> u8
+    ensures { λ _. ⌜ Reads-length ⌝ }
+{
+    0
 }
