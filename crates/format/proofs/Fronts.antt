@@ -41,16 +41,13 @@ pub record Front (m : ℕ) (b : List ℕ) : Type 0 where
   pub is : b ≡ framed tag contents ++ behind
 
 -- a tag, a length and enough bytes behind it are an element
-pub front-from : (m t n : ℕ) (r : List ℕ) → n ≤ m → n ≤ length r → (b : List ℕ) → b ≡ t ∷ (written-length n ++ r) → Front m b
-front-from m t n r h k b e =
-    let l = length-take-le n r k in
-    record {
-      tag = t;
-      contents = take n r;
-      behind = drop n r;
-      fits = omega arith;
-      is = e ∙ ap (λ x. t ∷ (written-length n ++ x)) (sym (take-append-drop n r)) ∙ ap (λ x. t ∷ (written-length x ++ (take n r ++ drop n r))) (sym l) ∙ sym (framed-is t (take n r) (drop n r));
-    }
+pub frame : (t n : ℕ) (r b : List ℕ) → n ≤ length r → b ≡ t ∷ (written-length n ++ r) → b ≡ framed t (take n r) ++ drop n r
+frame t n r b h e =
+    let l = length-take-le n r h in
+    e ∙ ap (λ x. t ∷ (written-length n ++ x)) (sym (take-append-drop n r)) ∙ ap (λ x. t ∷ (written-length x ++ (take n r ++ drop n r))) (sym l) ∙ sym (framed-is t (take n r) (drop n r))
+
+front-from : (m t n : ℕ) (r : List ℕ) → n ≤ m → n ≤ length r → (b : List ℕ) → b ≡ t ∷ (written-length n ++ r) → Front m b
+front-from m t n r h k b e = record { tag = t; contents = take n r; behind = drop n r; fits = omega (arith, length-take-le n r k); is = frame t n r b k e }
 
 -- a tag that has no length behind it begins no element
 pub front-length-of : (m t : ℕ) (b : List ℕ) → (f : Front m (t ∷ b)) → b ≡ written-length (length (f .contents)) ++ (f .contents ++ f .behind)

@@ -30,6 +30,15 @@ shape n =
     ⊎-elim (λ h. subst (Shape n) (sym (short n h)) (is-short h))
     (λ h. ⊎-elim (λ k. subst (Shape n) (sym (middle n h k)) (is-middle h k)) (λ k. subst (Shape n) (sym (long n k)) (is-long k)) (cases-lt n 256)) (cases-lt n 128)
 
+shape-size : (n : ℕ) (s : List ℕ) → Shape n s → 1 ≤ length s
+shape-size n s (is-short h) = omega arith
+shape-size n s (is-middle h k) = omega arith
+shape-size n s (is-long h) = omega arith
+
+-- a length takes a byte at least
+pub written-some : (n : ℕ) → 1 ≤ length (written-length n)
+written-some n = shape-size n (written-length n) (shape n)
+
 -- two shapes at the front of the same bytes
 same-shape : (n k : ℕ) (s t x y : List ℕ) → Shape n s → Shape k t → s ++ x ≡ t ++ y → (n ≡ k) × (x ≡ y)
 same-shape n k s t x y (is-short h) (is-short g) e = (cc, cc)

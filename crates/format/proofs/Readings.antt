@@ -46,12 +46,11 @@ unfolding written well-formed
 reads-none d m = record { well = refl; writing = refl }
 
 pub readable-none : (d m : ℕ) → Readable d m [] true
-unfolding Readable
 readable-none d m = (empty, reads-none d m)
 
 -- behind a primitive element the rest decides
 pub after-primitive : (d m t : ℕ) (c r b : List ℕ) → t < 128 → all-bytes c ≡ true → length c ≤ m → b ≡ framed t c ++ r → (v : Bool) → Readable d m r v → Readable d m b v
-unfolding Readable written
+unfolding written
 after-primitive d m t c r b low bytes fits e true h = (
   primitive t c (h .0),
   record { well = primitive-from d m t c (h .0) (record { low = low; bytes = bytes; fits = fits; rest = h .1 .well }); writing = ap (λ l. framed t c ++ l) (h .1 .writing) ∙ sym e },
@@ -61,7 +60,7 @@ after-primitive d m t c r b low bytes fits e false h = λ row reads.
 
 -- behind a constructed element whose contents read as a row the rest decides
 pub after-constructed : (d m t : ℕ) (c r b : List ℕ) → 128 ≤ t → t < 256 → length c ≤ m → b ≡ framed t c ++ r → Readable d m c true → (v : Bool) → Readable (suc d) m r v → Readable (suc d) m b v
-unfolding Readable written
+unfolding written
 after-constructed d m t c r b high byte fits e inner true h =
     let q = inner .0 in
     let w = inner .1 .writing in (
@@ -76,23 +75,19 @@ after-constructed d m t c r b high byte fits e inner false h = λ row reads.
 
 -- a constructed element whose contents do not read as a row
 pub contents-malformed : (d m t : ℕ) (c r b : List ℕ) → 128 ≤ t → b ≡ framed t c ++ r → Readable d m c false → Readable (suc d) m b false
-unfolding Readable
 contents-malformed d m t c r b high e h = λ row reads.
     elim (goes-on (suc d) m b row reads t c r e) [ as-primitive x y z rest k ↦ absurd (omega arith) | as-constructed less x y z w q k rest l ↦ let same : less ≡ d = omega arith in h q (subst (λ n. Reads n m c q) same k) ]
 
 -- a constructed element where none may stand
 pub too-deep : (m t : ℕ) (c r b : List ℕ) → 128 ≤ t → b ≡ framed t c ++ r → Readable zero m b false
-unfolding Readable
 too-deep m t c r b high e = λ row reads.
     elim (goes-on zero m b row reads t c r e) [ as-primitive x y z rest k ↦ absurd (omega arith) | as-constructed less x y z w q k rest l ↦ absurd (omega arith) ]
 
 -- bytes that begin with no element
 pub no-front : (d m : ℕ) (b : List ℕ) → 0 < length b → (Front m b → ⊥) → Readable d m b false
-unfolding Readable
 no-front d m b some none = λ row reads. none (has-front d m b row reads some)
 
 tag-or-contents : (d m t : ℕ) (c r b : List ℕ) → b ≡ framed t c ++ r → (256 ≤ t) ⊎ ((t < 128) × (all-bytes c ≡ false)) → Readable d m b false
-unfolding Readable
 tag-or-contents d m t c r b e f = λ row reads.
     elim (goes-on d m b row reads t c r e) [ as-primitive x y z rest k ↦ ⊎-elim (λ g. omega arith) (λ g. both-ways (all-bytes c) (g .1) y) f | as-constructed less x y z w q k rest l ↦ ⊎-elim (λ g. omega arith) (λ g. omega (arith, g .0)) f ]
 
@@ -129,7 +124,6 @@ pub same-reading : (d m : ℕ) (b : List ℕ) (row other : Row) → Reads d m b 
 same-reading d m b row other h g = unique other row d d m m (g .well) (h .well) (g .writing ∙ sym (h .writing))
 
 pub one-reading : One-reading
-unfolding Readable
 one-reading d m b = go (decide (length b) d m b le .0) (decide (length b) d m b le .1)
   where
     le : length b ≤ length b

@@ -9,6 +9,7 @@ use lib.ListN.{length, length-append}
 use Rattle.std.proofs.shelf.Tests.{false≢true, ltb-true, leb-true, lt-ltb, le-leb, and-parts, and-from}
 use Rattle.format.specs.Elements.{Row, empty, primitive, constructed, written-length, framed, written, all-bytes, well-formed, Reads}
 use Rattle.format.proofs.Fronts.{Front, same-front}
+use Rattle.format.proofs.Lengths.{written-some}
 
 pub record Primitive-parts (d m t : ℕ) (c : List ℕ) (r : Row) : Type 0 where
   pub low : t < 128
@@ -57,10 +58,10 @@ constructed-from d m t q r high byte fits within rest =
     (and-from (ltb t 256) (leb (length (written q)) m && (well-formed d m q && well-formed (suc d) m r)) (lt-ltb t 256 byte)
     (and-from (leb (length (written q)) m) (well-formed d m q && well-formed (suc d) m r) (le-leb (length (written q)) m fits) (and-from (well-formed d m q) (well-formed (suc d) m r) within rest)))
 
--- an element takes two bytes and more
-pub framed-size : (t : ℕ) (c r : List ℕ) → length c + length r < length (framed t c ++ r)
+-- an element takes two bytes and its contents at least
+pub framed-size : (t : ℕ) (c r : List ℕ) → 2 + length c + length r ≤ length (framed t c ++ r)
 unfolding framed
-framed-size t c r = omega (arith, length-append (written-length (length c) ++ c) r, length-append (written-length (length c)) c)
+framed-size t c r = omega (arith, length-append (written-length (length c) ++ c) r, length-append (written-length (length c)) c, written-some (length c))
 
 -- a reading of bytes that begin with an element: what the element is, and a reading of the rest
 pub data Goes-on (d m t : ℕ) (c r : List ℕ) : Type 0 where

@@ -42,6 +42,6 @@ pub record Reads (depth longest : ℕ) (bytes : List ℕ) (row : Row) : Type 0 w
   pub writing : written row ≡ bytes
 
 -- whether the bytes read as some row
-unfoldable pub Readable : (depth longest : ℕ) → (bytes : List ℕ) → Bool → Type 0
+abbrev pub Readable : (depth longest : ℕ) → (bytes : List ℕ) → Bool → Type 0
 Readable d m b true = (row : Row) × Reads d m b row
 Readable d m b false = (row : Row) → Reads d m b row → ⊥
