@@ -4,8 +4,8 @@ use mathlib.Core.List.{List, [], _∷_, _++_}
 use Prim.Native.Nat.{ℕ, suc, _+_, _-_, _≤_, _<_}
 use native.Mathlib.Numerals.{one-add}
 use native.Mathlib.Omega.{arith}
-use lib.ListN.{length, getD, take, drop, length-drop}
-use lib.Seq.{drop-drop, getD-drop}
+use lib.ListN.{length, getD, take, drop, length-drop, length-append}
+use lib.Seq.{drop-drop, getD-drop, take-at, length-take-le}
 use Rattle.std.specs.declared.option.Option.{Option}
 use Rattle.std.proofs.shelf.Lists.{take-rest}
 use Rattle.format.specs.Elements.{written-length, framed}
@@ -72,3 +72,26 @@ shut-long (t ∷ x) v k h g l =
 -- what reading the length behind the tag says
 pub length-behind : (b : List ℕ) → ((i : ℕ) → getD b i 0 < 256) → (r : Option Length) → r ≡ front-length (take (length b - 1) (drop 1 b)) → Length-at (drop 1 b) r
 length-behind b h r e = subst (Length-at (drop 1 b)) (sym (e ∙ ap front-length (take-rest b 1))) (reads-length (drop 1 b) (λ i. rw getD-drop (h (1 + i))))
+
+-- the first element as parts of the bytes: all of it, its contents, and what is behind it
+pub record Parts (b : List ℕ) (t s e : ℕ) : Type 0 where
+  pub whole : take (e - 0) b ≡ framed t (take (e - s) (drop s b))
+  pub front : b ≡ take (e - 0) b ++ take (length b - e) (drop e b)
+  pub size : length (take (e - 0) b) ≡ e
+  pub inner : length (take (e - s) (drop s b)) ≡ e - s
+  pub left : length (take (length b - e) (drop e b)) ≡ length b - e
+
+pub parts : (b : List ℕ) (t s e : ℕ) → Opens b t s e → Parts b t s e
+parts b t s e o =
+    let element = framed t (take (e - s) (drop s b)) in
+    let same : e - 0 ≡ e = omega arith in
+    let left : length (drop e b) ≡ length b - e = length-drop e b in
+    let long : length element ≡ e = omega (arith, o .within, ap length (o .is), length-append element (drop e b)) in
+    let whole : take (e - 0) b ≡ element = ap (λ n. take n b) same ∙ ap (take e) (o .is) ∙ take-at element (drop e b) e long in
+    record {
+      whole = whole;
+      front = rw (take-rest b e) (o .is ∙ ap (λ l. l ++ drop e b) (sym whole));
+      size = ap length whole ∙ long;
+      inner = length-take-le (e - s) (drop s b) (omega (arith, length-drop s b, o .forward, o .within));
+      left = rw (take-rest b e) left;
+    }

@@ -2,8 +2,8 @@
 use mathlib.Core.List.{List}
 use Prim.Native.Nat.{ℕ}
 use Rattle.format.specs.Elements.{Row, Reads}
-use Rattle.element.specs.declared.Verdict.{Verdict}
-use Rattle.element.specs.declared.Verdict.the-variants.{Well, Ill}
+use Rattle.element.specs.declared.judging.Verdict.{Verdict}
+use Rattle.element.specs.declared.judging.Verdict.the-variants.{Well, Ill}
 
 -- constructed elements stand within one another at most so deep
 abbrev pub deepest : ℕ

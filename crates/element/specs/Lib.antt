@@ -1,2 +1,3 @@
+pub mod Cursors
 pub mod Judged
 pub mod Openings

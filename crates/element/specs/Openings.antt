@@ -7,7 +7,7 @@ use lib.ListN.{length, take, drop}
 use Rattle.std.specs.declared.option.Option.{Option}
 use Rattle.std.specs.declared.option.Option.the-variants.{Some, None}
 use Rattle.format.specs.Elements.{framed, all-bytes, Readable}
-use Rattle.element.specs.declared.Opening.{Opening}
+use Rattle.element.specs.declared.judging.Opening.{Opening}
 use Rattle.element.specs.Judged.{longest}
 
 -- the bytes begin with an element: its tag, and from where to where its contents stand

@@ -3,7 +3,7 @@ use native.Mathlib.Omega.{arith}
 use lib.ListN.{length-drop}
 use Rattle.element.specs.Openings.{Opened}
 use Rattle.element.proofs.Openings.{opens-from, shut-few, shut-length, shut-long, length-behind}
-use Rattle.element.proofs.Reader.open.Needs as need
+use Rattle.element.proofs.judging.Reader.open.Needs as need
 
 pub returns-then-bytes-lt1 : need.returns-then-bytes-lt1
 returns-then-bytes-lt1 c = shut-few (c .args .bytes .now) (omega arith)

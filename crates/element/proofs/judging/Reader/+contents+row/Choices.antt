@@ -1,7 +1,7 @@
 use Prim.Native.Nat.{_+_, _*_}
 use lib.ListN.{length}
 use Rattle.element.specs.Openings.{Decides}
-use Rattle.element.proofs.Reader.+contents+row.Given as given
+use Rattle.element.proofs.judging.Reader.+contents+row.Given as given
 
 abbrev pub μ-contents : given.MeasureT-contents
 μ-contents l = 2 * length (l .bytes .now) + 1

@@ -1,7 +1,7 @@
 use native.Mathlib.Omega.{arith}
 use borrow.Author.Needs.{needs}
 use Rattle.element.proofs.Steps.{decides-start, decides-short}
-use Rattle.element.proofs.Reader.skip.Needs as need
+use Rattle.element.proofs.judging.Reader.skip.Needs as need
 
 pub loop-rest-holds : need.loop-rest-holds
 loop-rest-holds c = (omega arith, λ b d. decides-start d (c .args .bytes .now) b)
