@@ -3,7 +3,9 @@ use mathlib.Core.Path.{_≡_}
 use mathlib.Core.List.{List, [], _∷_, _++_}
 use mathlib.Core.Logic.{_⊎_}
 use Prim.Native.Nat.{ℕ, _≤_}
-use Rattle.format.specs.Elements.{Row, empty, primitive, constructed, framed, Reads}
+use lib.ListN.{length, take, drop}
+use Rattle.format.specs.Elements.{Row, empty, primitive, constructed, framed, written, Reads}
+use Rattle.format.specs.Paths.{at-path, place}
 
 -- one reading: of all bytes it is decided whether they read as a row, and what they read as is one row only
 abbrev pub One-reading : Type 0
@@ -18,6 +20,18 @@ Same-front = (t u : ℕ) (c e : List ℕ) (r s : List ℕ) → framed t c ++ r �
 -- what narrower limits take, wider ones read as the same row
 abbrev pub Wider : Type 0
 Wider = (d e m n : ℕ) (bytes : List ℕ) (row : Row) → d ≤ e → m ≤ n → Reads d m bytes row → Reads e n bytes row
+
+-- an element by a path is a part of the bytes: as many bytes as it is written in, from its place
+abbrev pub Part-of-bytes : Type 0
+Part-of-bytes =
+    (depth longest : ℕ) (bytes : List ℕ) (row : Row) (path : List ℕ)
+    → Reads depth longest bytes row → take (length (written (at-path row path))) (drop (place row path) bytes) ≡ written (at-path row path)
+
+-- two paths that lead to elements at the same place are the same path
+abbrev pub One-path : Type 0
+One-path =
+    (row : Row) (p q : List ℕ)
+    → (at-path row p ≡ empty → ⊥) → (at-path row q ≡ empty → ⊥) → place row p ≡ place row q → p ≡ q
 
 -- samples: a row of two, a length written too long, an end too soon, no bytes
 pub record Samples (depth longest : ℕ) : Type 0 where

@@ -1,5 +1,5 @@
 // The format of elements: what is promised of it, each promise on a function of its own.
-ghost use Rattle.format.specs.Promise.{One-reading, Same-front, Wider, Samples};
+ghost use Rattle.format.specs.Promise.{One-reading, Same-front, Wider, Part-of-bytes, One-path, Samples};
 
 // All bytes are one row of elements or malformed, and which is decided.
 pub fn one_reading_stands() -> u8
@@ -18,6 +18,20 @@ pub fn same_front_stands() -> u8
 // What narrower limits take, wider ones read as the same row.
 pub fn wider_stands() -> u8
     ensures { λ _. ⌜ Wider ⌝ }
+{
+    0
+}
+
+// An element by a path is a part of the bytes, at its place.
+pub fn part_of_bytes_stands() -> u8
+    ensures { λ _. ⌜ Part-of-bytes ⌝ }
+{
+    0
+}
+
+// Two paths that lead to elements at the same place are the same path.
+pub fn one_path_stands() -> u8
+    ensures { λ _. ⌜ One-path ⌝ }
 {
     0
 }
