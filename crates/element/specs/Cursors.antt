@@ -5,7 +5,9 @@ use Prim.Native.Nat.{ℕ, _+_, _≤_}
 use lib.ListN.{length}
 use Rattle.std.specs.declared.option.Option.{Option}
 use Rattle.std.specs.declared.option.Option.the-variants.{Some, None}
-use Rattle.format.specs.Elements.{framed}
+use Rattle.std.specs.Iters.{yields-then}
+use Rattle.std.specs.Joined.{joined}
+use Rattle.format.specs.Elements.{Row, framed, Reads}
 use Rattle.element.specs.Judged.{longest}
 use Rattle.element.specs.declared.walking.Cursor.{Cursor}
 use Rattle.element.specs.declared.walking.Element.{Element}
@@ -27,3 +29,7 @@ pub record Passes (c : Cursor) (e : Element) (after : Cursor) : Type 0 where
 abbrev pub Next : Cursor → Option Element → Cursor → Type 0
 Next c (Some e) after = Passes c e after
 Next c None after = (after ≡ c) × ((tag : ℕ) (contents behind : List ℕ) → length contents ≤ longest → ahead c ≡ framed tag contents ++ behind → ⊥)
+
+-- the elements that a cursor gives until it gives none, one behind the other, are the bytes of the row
+abbrev pub Cursor-gives : Type 0
+Cursor-gives = (depth : ℕ) (row : Row) (c end : Cursor) (given : List Element) → Reads depth longest (ahead c) row → yields-then Next c given None end → joined (λ e. e .whole .now) given ≡ ahead c

@@ -1,3 +1,4 @@
 pub mod Cursors
 pub mod Judged
+pub mod Located
 pub mod Openings

@@ -2,7 +2,7 @@
 ghost use mathlib.Core.Path.{_≡_};
 ghost use Prim.Native.Nat.{_+_, _^_, _<_};
 ghost use lib.ListN.{length};
-ghost use Rattle.element.specs.Cursors.{Next, ahead};
+ghost use Rattle.element.specs.Cursors.{Next, ahead, Cursor-gives};
 use crate::judging::Opening;
 use crate::judging::Reader;
 
@@ -73,4 +73,11 @@ pub impl<'a> Iterator for Cursor<'a> as CursorIterator {
             contents_at: at + start,
         })
     }
+}
+
+// The elements that a cursor gives, one behind the other, are the bytes of the row.
+pub fn cursor_gives_stands() -> u8
+    ensures { λ _. ⌜ Cursor-gives ⌝ }
+{
+    0
 }

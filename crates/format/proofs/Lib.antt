@@ -4,3 +4,4 @@ pub mod Limits
 pub mod Places
 pub mod Readings
 pub mod Rows
+pub mod Walks

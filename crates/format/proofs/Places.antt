@@ -113,7 +113,7 @@ header-some (constructed t q r) zero f = omega arith
 header-some (constructed t q r) (suc n) f = header-some r n f
 
 -- nothing is within no elements
-at-path-empty : (path : List ℕ) → at-path empty path ≡ empty
+pub at-path-empty : (path : List ℕ) → at-path empty path ≡ empty
 unfolding at-path nth inside
 at-path-empty [] = refl
 at-path-empty (n ∷ []) = refl
