@@ -46,7 +46,7 @@ impl Reader {
     const HEADER: usize = 2;
 
     // The element at the front of the bytes.
-    pub fn open(bytes: &[u8]) -> Option<Opening>
+    pub(crate) fn open(bytes: &[u8]) -> Option<Opening>
         ensures { λ r. ⌜ Opened (now (bytes .entry)) r ⌝ }
     {
         if bytes.len() < 1 {
