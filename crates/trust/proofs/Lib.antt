@@ -1,0 +1,4 @@
+pub mod Numbers
+pub mod Ways
+pub mod Shortest
+pub mod Means
