@@ -26,7 +26,7 @@ pub(crate) fn first_faulty(n: usize, numbers: &[u32]) -> usize
 }
 
 // Whether each mark is 0 or 1: the largest of them is sought, without an early exit.
-fn all_marks(marks: &[u8]) -> bool
+pub(crate) fn all_marks(marks: &[u8]) -> bool
     ensures { λ r. ⌜ r ≡ all-marks (now (marks .entry)) ⌝ }
 {
     let mut largest = 0;

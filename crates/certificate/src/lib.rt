@@ -3,9 +3,12 @@ ghost use mathlib.Core.Path.{_≡_};
 ghost use Rattle.certificate.specs.Rejections.{number};
 
 mod checks;
+mod places;
 pub mod view;
 
 pub use checks::pool_rejection;
+pub use places::certificates_place;
+pub use places::marks_place;
 pub use view::PoolView;
 
 // The most certificates that are taken.
