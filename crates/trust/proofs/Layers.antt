@@ -3,7 +3,7 @@ use mathlib.Core.Path.{_≡_, sym, ap, _∙_, subst}
 use mathlib.Core.Bool.{true, false}
 use mathlib.Core.List.{List}
 use mathlib.Core.Logic.{_⊎_, inl, inr, ⊎-elim}
-use Prim.Native.Nat.{ℕ, _+_, _≤_, _<_}
+use Prim.Native.Nat.{ℕ, _+_, _-_, _≤_, _<_}
 use native.Mathlib.Omega.{arith}
 use lib.ListN.{length, getD, set, length-set}
 use Rattle.std.proofs.shelf.Lists.{getD-set-same, getD-set-other}
@@ -149,13 +149,15 @@ module _ (p : Pool) (day first : ℕ) (far from : List ℕ) (c k : ℕ) where
       at m a b la l (inr u) = inr (omega arith, inl la)
 
   -- a layer with nothing in it: no later layer has anything
-  pub emptied : Layers p day first far from c k (p .count) 0 → ((a : ℕ) → a < p .count → getD far a 0 ≡ k + 1 → ⊥) → (j : ℕ) → k ≤ j → Layers p day first far from c j 0 0
-  emptied h n j l = on h c j 0 0 l (λ m a b la lb e o f. inl (at m a la e (cases-lt m k))) (h .cleared)
+  pub emptied : Layers p day first far from c k (p .count) 0 → k ≤ c → ((a : ℕ) → a < p .count → getD far a 0 ≡ k + 1 → ⊥) → (j : ℕ) → k ≤ j → Layers p day first far from j j 0 0
+  emptied h q n j l = on h j j 0 0 l (λ m a b la lb e o f. inl (inl (low a la m e))) (λ a la s t. h .cleared a la s (omega (arith, low a la (getD far a 0 - 1) (omega arith))))
     where
-      at : (m a : ℕ) {b : ℕ} → a < p .count → getD far a 0 ≡ m + 1 → (m < k) ⊎ (k ≤ m) → Before m a b k (p .count) 0
-      at m a la e (inl u) = inl u
-      at m a la e (inr u) = absurd (⊎-elim (λ q. n a la (e ∙ ap (λ i. i + 1) q)) (λ q. n (getD from a 0) (h .below a) (h .parent k a la (omega (arith, h .high a la)) .layer)) (cases-eq m k))
+      low : (a : ℕ) → a < p .count → (m : ℕ) → getD far a 0 ≡ m + 1 → m < k
+      low a la m e =
+          ⊎-elim (λ u. u)
+          (λ u. absurd (⊎-elim (λ v. n a la (e ∙ ap (λ i. i + 1) v)) (λ v. n (getD from a 0) (h .below a) (h .parent k a la (omega (arith, h .high a la)) .layer)) (cases-eq m k)))
+          (cases-lt m k)
 
-  -- a layer with no trust anchor
-  pub clearer : Layers p day first far from k k 0 0 → ((a : ℕ) → a < p .count → getD far a 0 ≡ k + 1 → p .anchor a ≡ false) → Layers p day first far from (k + 1) k 0 0
-  clearer h n = on h (k + 1) k 0 0 (omega arith) (λ m a b la lb e o f. inl o) (λ a la s t. ⊎-elim (λ e. n a la e) (λ e. h .cleared a la s (omega arith)) (cases-eq (getD far a 0) (k + 1)))
+-- a layer with no trust anchor
+pub clearer : (p : Pool) (day first : ℕ) (far from : List ℕ) (k : ℕ) → Layers p day first far from k k 0 0 → ((a : ℕ) → a < p .count → getD far a 0 ≡ k + 1 → p .anchor a ≡ false) → Layers p day first far from (k + 1) k 0 0
+clearer p day first far from k h n = on h (k + 1) k 0 0 (omega arith) (λ m a b la lb e o f. inl o) (λ a la s t. ⊎-elim (λ e. n a la e) (λ e. h .cleared a la s (omega arith)) (cases-eq (getD far a 0) (k + 1)))

@@ -40,6 +40,7 @@ pub record Top (p : Pool) (day first : ℕ) (far from : List ℕ) (k a : ℕ) : 
   pub layers : Layers p day first far from k k 0 0
   pub known : a < p .count
   pub layer : getD far a 0 ≡ k + 1
+  pub few : k < p .count
   pub anchored : p .anchor a ≡ true
 
 -- the certificate j layers below a
