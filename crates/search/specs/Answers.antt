@@ -24,12 +24,6 @@ pub record Written (p : Pool) (day first k : ℕ) (old new : List ℕ) : Type 0 
   pub count : length (take k new) ≡ k
   pub shortest : Shortest p day first (take k new)
 
--- what is found in a pool: a shortest chain of k, or that there is no chain, with the output buffer unchanged; nothing is rejected
-abbrev pub Finds : (p : Pool) → (day first : ℕ) → (old new : List ℕ) → Answer → Type 0
-Finds p day first old new (Found k) = Written p day first k old new
-Finds p day first old new NoChain = (new ≡ old) × ((xs : List ℕ) → Chain p day first xs → ⊥)
-Finds p day first old new (Rejected r) = ⊥
-
 -- what each answer says of the input and of the output buffer, before and after
 abbrev pub Answers : (n : ℕ) → (certificates signatures anchors : List ℕ) → (day first : ℕ) → (old new : List ℕ) → Answer → Type 0
 Answers n cs ss ts day first old new (Found k) = (rejected-by n cs ss ts first (length old) ≡ 0) × Written (pool n cs ss ts) day first k old new

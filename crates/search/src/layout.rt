@@ -1,5 +1,4 @@
 // A chain laid out into the output buffer.
-ghost use mathlib.Core.Path.{_≡_};
 ghost use Prim.Native.Nat.{ℕ, _+_, _<_};
 ghost use lib.ListN.{length, getD};
 ghost use Rattle.certificate.specs.Sixes.{most};

@@ -5,7 +5,8 @@ ghost use Rattle.std.specs.Options.{Cases};
 ghost use Rattle.trust.specs.Chains.{Pool};
 ghost use Rattle.certificate.specs.Rejections.{number};
 ghost use Rattle.certificate.specs.Views.{view-pool};
-ghost use Rattle.search.specs.Answers.{Answers, Finds, rejected-by};
+ghost use Rattle.search.specs.Answers.{Answers, Written, rejected-by};
+ghost use Rattle.search.specs.Kept.{None-up};
 use certificate::PoolView;
 use certificate::Rejection;
 use certificate::RejectionDebug;
@@ -32,21 +33,19 @@ pub enum Answer {
     Rejected(Rejection),
 }
 
-// What is found for a query; a chain is written to the front of the output buffer.
-fn find(asked: &Query, out: &mut [u16]) -> Answer
+// How many certificates a shortest chain has, if there is one; it is written to the front of the output buffer.
+fn find(asked: &Query, out: &mut [u16]) -> Option<usize>
     requires { ⌜ length (now out) ≡ view-pool (now asked .view) .count ⌝ }
-    ensures { λ r. ⌜ Finds (view-pool (now (asked .entry) .view)) (now (asked .entry) .day) (now (asked .entry) .first) (now (out .entry)) (now (out .exit)) r ⌝ }
+    ensures { λ r. ⌜ Cases r ((now (out .exit) ≡ now (out .entry)) × None-up (now (asked .entry))) (λ k. Written (view-pool (now (asked .entry) .view)) (now (asked .entry) .day) (now (asked .entry) .first) k (now (out .entry)) (now (out .exit))) ⌝ }
 {
     if !asked.view.holds(asked.first, asked.day) {
-        return Answer::NoChain;
+        return None;
     }
     let mut reached = Reached::begin(asked.first);
-    let Some(top) = reached.climb(asked) else {
-        return Answer::NoChain;
-    };
+    let top = reached.climb(asked)?;
     let count = reached.far[top] as usize;
     lay_out(&reached.from, top, count - 1, out);
-    Answer::Chain(count)
+    Some(count)
 }
 
 // The first rejection that applies to the input of a search, if any.
@@ -88,12 +87,13 @@ pub fn find_chain<'a>(
         return Answer::Rejected(r);
     }
     let view = PoolView::new(n, certificates, signatures, anchors);
-    find(
-        &Query {
-            view,
-            day,
-            first: first as usize,
-        },
-        out,
-    )
+    let asked = Query {
+        view,
+        day,
+        first: first as usize,
+    };
+    match find(&asked, out) {
+        Some(count) => Answer::Chain(count),
+        None => Answer::NoChain,
+    }
 }

@@ -1,5 +1,6 @@
 use mathlib.Core.Path.{refl, sym}
 use native.Mathlib.Omega.{arith}
+use lib.ListN.{getD}
 use Rattle.trust.proofs.Found.{not-held}
 use Rattle.certificate.specs.Sixes.{most}
 use Rattle.search.proofs.Ends.{started, written}
@@ -13,10 +14,10 @@ climb-requires c κs = started _ _ _ most _ _ (c .begin-reached .ensures .far) (
 
 pub lay-out-requires : need.lay-out-requires
 lay-out-requires c κs =
-    let top = c .in-Some .ensures tt in
+    let top = c .in-Continue-top .ensures tt in
     (omega (arith, top .1 .known, c .args .asked .now .view .few), omega (arith, top .1 .layer, top .1 .few, c .pre), λ a. omega (arith, top .1 .layers .below a, c .args .asked .now .view .few))
 
 pub returns : need.returns
 returns c =
-    let top = c .in-Some .ensures tt in
-    written _ _ _ (c .climb .last .self .far) (c .climb .last .self .from) (top .0) (c .in-Some .top) _ _ _ (top .1) (top .1 .layer) (c .pre) (c .lay-out .ensures)
+    let top = c .in-Continue-top .ensures tt in
+    written _ _ _ (c .climb .last .self .far) (c .climb .last .self .from) (top .0) (c .in-Continue-top .top) (getD (c .climb .last .self .far) (c .in-Continue-top .top) 0) _ _ (top .1) (top .1 .layer) (c .pre) (c .lay-out .ensures)
