@@ -11,7 +11,7 @@ use Rattle.std.specs.Orderings.{When}
 use Rattle.std.proofs.shelf.Lists.{drop-more, drop-all}
 use Rattle.std.proofs.shelf.Tests.{and-parts, and-from, false≢true, both-ways, lt-ltb, ltb-true}
 use Rattle.trust.specs.Chains.{Certificate, Pool, Chain, holds, issues, climbs}
-use Rattle.chain.specs.Known.{issues-known, step}
+use Rattle.chain.specs.Known.{issues-known, step, top}
 
 -- the first k certificates of the row, and the one at k, are climbed: the rest decides
 pub record Climbed (p : Pool) (day : ℕ) (xs : List ℕ) (k at : ℕ) : Type 0 where
@@ -21,7 +21,7 @@ pub record Climbed (p : Pool) (day : ℕ) (xs : List ℕ) (k at : ℕ) : Type 0 
   pub rest : climbs p day 0 xs ≡ climbs p day k (drop k xs)
 
 -- what follows a test that holds
-pub after : (a b : Bool) → a ≡ true → (a && b) ≡ b
+after : (a b : Bool) → a ≡ true → (a && b) ≡ b
 after a b e = ap (λ t. t && b) e
 
 climbs-some : (p : Pool) (day k : ℕ) (xs : List ℕ) → climbs p day k xs ≡ true → 0 < length xs
@@ -45,15 +45,15 @@ module _ (p : Pool) (day : ℕ) (xs : List ℕ) where
       let two = drop-more xs (k + 1) 0 l in
       ap (climbs p day k) (drop-more xs k 0 here ∙ ap (λ ys. a ∷ ys) two) ∙ ap (λ ys. holds (p .certificate a) day && (issues p b a && (leb k (p .certificate b .path-len) && climbs p day (k + 1) ys))) (sym two)
 
-  climbs-last : (k : ℕ) → k + 1 ≡ length xs → climbs p day k (drop k xs) ≡ (holds (p .certificate (getD xs k 0)) day && p .anchor (getD xs k 0))
+  climbs-last : (k : ℕ) → k + 1 ≡ length xs → climbs p day k (drop k xs) ≡ top p day (getD xs k 0)
   unfolding climbs
   climbs-last k e =
       let here : k < length xs = omega arith in
       let none : length xs ≤ k + 1 = omega arith in
       ap (climbs p day k) (drop-more xs k 0 here ∙ ap (λ ys. getD xs k 0 ∷ ys) (drop-all (k + 1) xs none))
 
-  is-last : (k at : ℕ) → Climbed p day xs k at → k + 1 ≡ length xs → climbs p day 0 xs ≡ (holds (p .certificate at) day && p .anchor at)
-  is-last k at c l = c .rest ∙ climbs-last k l ∙ ap (λ a. holds (p .certificate a) day && p .anchor a) (c .here)
+  is-last : (k at : ℕ) → Climbed p day xs k at → k + 1 ≡ length xs → climbs p day 0 xs ≡ top p day at
+  is-last k at c l = c .rest ∙ climbs-last k l ∙ ap (top p day) (c .here)
 
   -- a chain takes each step
   pub no-step : (first k at : ℕ) → Climbed p day xs k at → k + 1 < length xs → step p day k at (getD xs (k + 1) 0) ≡ false → Chain p day first xs → ⊥
@@ -81,6 +81,6 @@ module _ (p : Pool) (day : ℕ) (xs : List ℕ) where
       }
 
   -- at the last certificate the row is a chain exactly if that one holds and is a trust anchor
-  pub at-last : (first k at : ℕ) (r : Bool) → getD xs 0 0 ≡ first → Climbed p day xs k at → k + 1 ≡ length xs → r ≡ (holds (p .certificate at) day && p .anchor at) → When r (Chain p day first xs) (Chain p day first xs → ⊥)
+  pub at-last : (first k at : ℕ) (r : Bool) → getD xs 0 0 ≡ first → Climbed p day xs k at → k + 1 ≡ length xs → r ≡ top p day at → When r (Chain p day first xs) (Chain p day first xs → ⊥)
   at-last first k at true b c l e = record { begins = b; known = λ i h. c .known i (omega arith); climb = is-last k at c l ∙ sym e }
   at-last first k at false b c l e = λ h. both-ways _ (is-last k at c l ∙ sym e) (h .climb)

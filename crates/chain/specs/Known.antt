@@ -11,3 +11,7 @@ issues-known p a b = ltb a (p .count) && (ltb b (p .count) && issues p a b)
 -- one step up a chain, from a to b: a holds on the day, b is there, issues a and allows so many certificates between itself and the first
 abbrev pub step : Pool → (day between a b : ℕ) → Bool
 step p day k a b = holds (p .certificate a) day && (issues-known p b a && leb k (p .certificate b .path-len))
+
+-- the last of a chain: it holds on the day and is a trust anchor
+abbrev pub top : Pool → (day a : ℕ) → Bool
+top p day a = holds (p .certificate a) day && p .anchor a

@@ -4,7 +4,7 @@ ghost use Prim.Native.Nat.{_<_};
 ghost use Rattle.std.specs.Orderings.{When};
 ghost use Rattle.trust.specs.Chains.{Pool, Chain};
 ghost use Rattle.certificate.specs.Views.{view-pool};
-ghost use Rattle.chain.specs.Known.{issues-known, step};
+ghost use Rattle.chain.specs.Known.{issues-known, step, top};
 use certificate::PoolView;
 
 // Whether certificates a and b are there and a is an issuer of b.
@@ -31,6 +31,14 @@ fn climbs_to(view: &PoolView, day: u64, between: usize, a: usize, b: usize) -> b
     view.holds(a, day) && issues(view, b, a) && between <= view.path_len(b) as usize
 }
 
+// Whether a holds on the day and is a trust anchor.
+fn ends_at(view: &PoolView, day: u64, a: usize) -> bool
+    requires { ⌜ a < view-pool (now view) .count ⌝ }
+    ensures { λ r. ⌜ r ≡ top (view-pool (now (view .entry))) day a ⌝ }
+{
+    view.holds(a, day) && view.is_anchor(a)
+}
+
 // Whether a row of certificates is a chain from the first one up to a trust anchor on a day.
 pub fn judge_chain(view: &PoolView, day: u64, first: u64, row: &[u64]) -> bool
     ensures { λ r. ⌜ When r (Chain (view-pool (now (view .entry))) day first (now (row .entry))) (Chain (view-pool (now (view .entry))) day first (now (row .entry)) → ⊥) ⌝ }
@@ -46,5 +54,5 @@ pub fn judge_chain(view: &PoolView, day: u64, first: u64, row: &[u64]) -> bool
         }
         at = next;
     }
-    view.holds(at, day) && view.is_anchor(at)
+    ends_at(view, day, at)
 }

@@ -1,4 +1,3 @@
-use mathlib.Core.Path.{_≡_}
 use Rattle.certificate.specs.Views.{view-pool}
 use Rattle.chain.proofs.Climbing.{Climbed}
 use Rattle.chain.proofs.judge_chain.Given as given
