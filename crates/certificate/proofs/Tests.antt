@@ -1,14 +1,14 @@
 -- Tests over all numbers below a bound, and over all marks. Assumes nothing.
 use mathlib.Core.Path.{_≡_, refl, sym, ap, _∙_}
 use mathlib.Core.Bool.{Bool, true, false, not, _&&_}
-use mathlib.Core.List.{List, [], _∷_}
+use mathlib.Core.List.{List}
 use mathlib.Core.Logic.{⊎-elim}
 use Prim.Native.Nat.{ℕ, zero, suc, max, _+_, _≤_, _<_}
 use native.Mathlib.Omega.{arith}
-use lib.Dec.{ltb, leb, eqb}
+use lib.Dec.{leb, eqb}
 use lib.ListN.{length, getD, drop}
 use Rattle.std.proofs.shelf.Lists.{at-drop-more, at-drop-all}
-use Rattle.std.proofs.shelf.Tests.{le-leb, lt-leb, eq-eqb, ne-eqb, and-left, and-right, and-from, not-from-true, not-from-false, cases-eq, cases-lt}
+use Rattle.std.proofs.shelf.Tests.{eq-eqb, ne-eqb, and-left, and-right, and-from, not-from-true, not-from-false, cases-eq}
 use Rattle.std.proofs.shelf.Ways.{tells}
 use Rattle.certificate.specs.Sixes.{First, none-below, all-marks}
 
@@ -17,13 +17,13 @@ pub after-true : (a b : Bool) → a ≡ true → b ≡ (a && b)
 after-true a b e = sym (ap (λ t. t && b) e)
 
 -- a test that fails below n holds nowhere below n
-pub none-from : (n : ℕ) (test : ℕ → Bool) → ((i : ℕ) → i < n → test i ≡ false) → none-below n test ≡ true
+none-from : (n : ℕ) (test : ℕ → Bool) → ((i : ℕ) → i < n → test i ≡ false) → none-below n test ≡ true
 unfolding none-below
 none-from zero test h = refl
 none-from (suc n) test h = and-from _ _ (none-from n test (λ i l. h i (omega arith))) (not-from-false _ (h n (omega arith)))
 
 -- one place below n at which it holds
-pub some-from : (n : ℕ) (test : ℕ → Bool) (i : ℕ) → i < n → test i ≡ true → none-below n test ≡ false
+some-from : (n : ℕ) (test : ℕ → Bool) (i : ℕ) → i < n → test i ≡ true → none-below n test ≡ false
 unfolding none-below
 some-from zero test i l h = absurd (omega arith)
 some-from (suc n) test i l h =

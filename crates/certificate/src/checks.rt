@@ -2,7 +2,6 @@
 ghost use mathlib.Core.Path.{_≡_};
 ghost use Prim.Native.Nat.{_*_};
 ghost use lib.Dec.{eqb};
-ghost use lib.ListN.{length};
 ghost use Rattle.certificate.specs.Rejections.{pool-rejection};
 ghost use Rattle.certificate.specs.Sixes.{First, faulty, all-marks, certificates-well, marks-well};
 use crate::MAY_ISSUE;

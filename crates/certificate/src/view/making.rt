@@ -1,6 +1,7 @@
-// A view of a pool is made of numbers and marks that are not rejected.
+// A view of a pool is made of numbers and marks that are not rejected; how many certificates it has.
 ghost use mathlib.Core.Path.{_≡_};
-ghost use Rattle.std.specs.declared.option.Option.the-variants.{Some, None};
+ghost use Rattle.std.specs.declared.option.Option.the-variants.{None};
+ghost use Rattle.trust.specs.Chains.{Pool};
 ghost use Rattle.certificate.specs.Rejections.{pool-rejection};
 ghost use Rattle.certificate.specs.Sixes.{pool};
 ghost use Rattle.certificate.specs.Views.{view-pool};
@@ -18,5 +19,12 @@ impl<'a> PoolView<'a> {
             signatures,
             anchors,
         }
+    }
+
+    // How many certificates there are.
+    pub fn count(&self) -> usize
+        ensures { λ r. ⌜ r ≡ view-pool (now (self .entry)) .count ⌝ }
+    {
+        self.count
     }
 }

@@ -1,6 +1,8 @@
 // What a view of a pool shows.
+ghost use mathlib.Core.Bool.{_&&_};
 ghost use mathlib.Core.Path.{_≡_};
 ghost use Prim.Native.Nat.{_<_};
+ghost use lib.Dec.{leb};
 ghost use Rattle.trust.specs.Chains.{Pool, Certificate, holds};
 ghost use Rattle.certificate.specs.Views.{view-pool};
 use crate::ISSUER;
@@ -12,14 +14,14 @@ use crate::SIX;
 use crate::YES;
 use crate::view::PoolView;
 
-impl PoolView<'_> {
-    // How many certificates there are.
-    pub fn count(&self) -> usize
-        ensures { λ r. ⌜ r ≡ view-pool (now (self .entry)) .count ⌝ }
-    {
-        self.count
-    }
+// Whether a day is neither before the first one nor after the last.
+fn within(day: u64, first: u32, last: u32) -> bool
+    ensures { λ r. ⌜ r ≡ (leb first day && leb day last) ⌝ }
+{
+    first as u64 <= day && day <= last as u64
+}
 
+impl PoolView<'_> {
     // Whose certificate i is.
     pub fn subject(&self, i: usize) -> u32
         requires { ⌜ i < view-pool (now self) .count ⌝ }
@@ -57,8 +59,11 @@ impl PoolView<'_> {
         requires { ⌜ i < view-pool (now self) .count ⌝ }
         ensures { λ r. ⌜ r ≡ holds (view-pool (now (self .entry)) .certificate i) day ⌝ }
     {
-        self.numbers[SIX * i + NOT_BEFORE] as u64 <= day
-            && day <= self.numbers[SIX * i + NOT_AFTER] as u64
+        within(
+            day,
+            self.numbers[SIX * i + NOT_BEFORE],
+            self.numbers[SIX * i + NOT_AFTER],
+        )
     }
 
     // Whether the signature of a under b is valid.

@@ -1,5 +1,4 @@
-use mathlib.Core.Path.{_∙_, sym}
-use borrow.Author.Needs.{needs}
+use mathlib.Core.Path.{_∙_}
 use native.Mathlib.Omega.{arith}
 use Prim.Native.Nat.{_*_}
 use lib.ListN.{length}
