@@ -40,7 +40,7 @@ begun p day first far from known valid room from-room none zeros =
     at a = written far first 1 a (omega arith)
 
 -- y is reached from x
-pub reached : (p : Pool) (day first : ℕ) (far from : List ℕ) (c k x y : ℕ) → Layers p day first far from c k x y → c ≤ k + 1 → x < p .count → y < p .count → getD far x 0 ≡ k + 1 → getD far y 0 ≡ 0 → follows p day k x y ≡ true → Layers p day first (set far y (k + 2)) (set from y x) c k x (y + 1)
+pub reached : (p : Pool) (day first : ℕ) (far from : List ℕ) (c k x y : ℕ) → Layers p day first far from c k x y → c ≤ k + 1 → x < p .count → y < p .count → getD far x 0 ≡ k + 1 → getD far y 0 ≡ 0 → true ≡ follows p day k x y → Layers p day first (set far y (k + 2)) (set from y x) c k x (y + 1)
 reached p day first far from c k x y h lc lx ly ex ey f =
     record {
       known = h .known;
@@ -72,7 +72,7 @@ reached p day first far from c k x y h lc lx ly ex ey f =
         let u : x ≡ getD (set from y x) b 0 = ⊎-elim (λ v. sym (v .1)) (λ v. absurd (v .0 (w .0))) (under b) in
         record {
           layer = subst (λ j. getD (set far y (k + 2)) j 0 ≡ m + 1) u (stays x m (omega arith));
-          follow = subst (λ j. follows p day m j b ≡ true) u (subst (λ j. follows p day j x b ≡ true) q (subst (λ j. follows p day k x j ≡ true) (sym (w .0)) f));
+          follow = subst (λ j. follows p day m j b ≡ true) u (subst (λ j. follows p day j x b ≡ true) q (subst (λ j. follows p day k x j ≡ true) (sym (w .0)) (sym f)));
         }
 
     old : (m b : ℕ) → (b ≡ y → ⊥) → Parent p day far from m b → Parent p day (set far y (k + 2)) (set from y x) m b

@@ -1,16 +1,13 @@
+use mathlib.Core.Path.{_∙_}
 use native.Mathlib.Omega.{arith}
-use Rattle.std.proofs.shelf.Ways.{tells}
-use Rattle.trust.specs.Layers.{follows}
+use Rattle.search.proofs.Follows.{not-issued, too-far, near}
 use Rattle.search.proofs.query.Query.follows.Needs as need
 
 pub returns-then-not-issues : need.returns-then-not-issues
-unfolding follows
-returns-then-not-issues c = grind (arith, tells)
+returns-then-not-issues c = not-issued _ _ _ _ _ (c .pre .0) (c .pre .1) (c .if-not-issues .ensures tt)
 
 pub returns-then-path-len-k : need.returns-then-path-len-k
-unfolding follows
-returns-then-path-len-k c = grind (arith, tells)
+returns-then-path-len-k c = too-far _ _ _ _ _ (c .pre .0) (c .pre .1) (c .if-not-issues .ensures tt) (omega arith)
 
 pub returns : need.returns
-unfolding follows
-returns c = grind (arith, tells)
+returns c = c .holds .ensures ∙ near _ _ _ _ _ (c .pre .0) (c .pre .1) (c .if-not-issues .ensures tt) (omega arith)

@@ -1,12 +1,9 @@
-use mathlib.Core.Bool.{true}
 use mathlib.Core.Path.{_≡_, sym, ap, _∙_}
 use mathlib.Core.Logic.{inl, inr}
 use Prim.Native.Nat.{_+_}
 use native.Mathlib.Omega.{arith}
 use lib.ListN.{getD}
 use Rattle.std.proofs.shelf.Lists.{getD-set-other}
-use Rattle.trust.specs.Layers.{follows}
-use Rattle.certificate.specs.Views.{view-pool}
 use Rattle.trust.proofs.Layers.{reached, passed}
 use Rattle.search.proofs.reached.Reached.reach.Needs as need
 use Rattle.search.proofs.reached.Reached.reach.Needs.{else-self-y-eq0·by·then-self-y-eq0·else-follows, else-self-y-eq0·by·else-self-y-eq0}
@@ -14,10 +11,9 @@ use Rattle.search.proofs.reached.Reached.reach.Needs.{else-self-y-eq0·by·the
 pub returns-then-follows : need.returns-then-follows
 returns-then-follows c =
     let apart : c .args .x ≡ c .args .y → ⊥ = λ e. omega (arith, ap (λ j. getD (c .args .self .now .far) j 0) e) in
-    let can : follows (view-pool (c .args .asked .now .view)) (c .args .asked .now .day) (c .args .k) (c .args .x) (c .args .y) ≡ true = sym (c .if-follows .ensures tt) in
     record {
       stays = getD-set-other (c .args .self .now .far) (c .args .y) (c .args .x) (c .args .k + 2) 0 apart ∙ c .pre .3;
-      kept = reached _ _ _ _ _ _ _ _ _ (c .pre .4) (omega arith) (c .pre .1) (c .pre .2) (c .pre .3) (c .if-self-y-eq0 .taken) can;
+      kept = reached _ _ _ _ _ _ _ _ _ (c .pre .4) (omega arith) (c .pre .1) (c .pre .2) (c .pre .3) (c .if-self-y-eq0 .taken) (c .if-follows .ensures tt);
     }
 
 pub returns-else-self-y-eq0 : need.returns-else-self-y-eq0
