@@ -1,0 +1,4 @@
+pub mod Pieces
+pub mod Figures
+pub mod Meaning
+pub mod Runs

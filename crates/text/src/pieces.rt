@@ -1,0 +1,73 @@
+// The words of a line.
+ghost use mathlib.Core.Path.{_≡_};
+ghost use Prim.Native.Nat.{_+_, _≤_};
+ghost use lib.ListN.{length, drop};
+ghost use Rattle.std.specs.Options.{Cases as BySome};
+ghost use Rattle.text.specs.Pieces.{blank, words, Handed, Ended};
+ghost use Rattle.text.specs.Runs.{run};
+
+const SPACE: u8 = b' ';
+
+const TAB: u8 = b'\t';
+
+const CARRIAGE_RETURN: u8 = b'\r';
+
+// The words of a line that are not handed out yet.
+#[derive(Drop)]
+pub struct Words<'a> {
+    rest: &'a [u8],
+}
+
+fn is_blank(b: u8) -> bool
+    ensures { λ r. ⌜ r ≡ blank b ⌝ }
+{
+    b == SPACE || b == TAB || b == CARRIAGE_RETURN
+}
+
+// How many bytes stand before the first blank.
+fn word_len(bytes: &[u8]) -> usize
+    ensures count { λ r. ⌜ r ≡ run blank (now (bytes .entry)) ⌝ }
+    ensures within { λ r. ⌜ r ≤ length (now (bytes .entry)) ⌝ }
+{
+    for (i, b) in bytes.iter().enumerate() {
+        if is_blank(*b) {
+            return i;
+        }
+    }
+    bytes.len()
+}
+
+// What stands behind the byte at n.
+fn behind<'a>(bytes: &'a [u8], n: usize) -> &'a [u8]
+    requires { ⌜ n ≤ length (now bytes) ⌝ }
+    ensures { λ r. ⌜ now r ≡ drop (n + 1) (now (bytes .entry)) ⌝ }
+{
+    if n < bytes.len() {
+        &bytes[n + 1..]
+    } else {
+        &bytes[n..]
+    }
+}
+
+impl<'a> Words<'a> {
+    pub fn new(line: &'a [u8]) -> Words<'a>
+        ensures { λ r. ⌜ now (r .rest) ≡ now (line .entry) ⌝ }
+    {
+        Words { rest: line }
+    }
+
+    // The next word.
+    pub fn next(&mut self) -> Option<&'a [u8]>
+        ensures { λ r. ⌜ BySome r (Ended words (now (now (self .entry) .rest)) (now (now (self .exit) .rest))) (λ w. Handed words (now (now (self .entry) .rest)) (now w) (now (now (self .exit) .rest))) ⌝ }
+    {
+        while self.rest.len() > 0 {
+            let n = word_len(self.rest);
+            let word = &self.rest[0..n];
+            self.rest = behind(self.rest, n);
+            if n > 0 {
+                return Some(word);
+            }
+        }
+        None
+    }
+}
