@@ -7,7 +7,7 @@ use native.Mathlib.Numerals.{add-one}
 use native.Mathlib.Omega.{arith}
 use lib.ListN.{length, take, drop, getD}
 use Rattle.std.proofs.shelf.Lists.{at-drop-more, at-drop-all, length-take-le, length-drop}
-use Rattle.text.specs.Pieces.{blank, lengthened, pieces, some-of, words}
+use Rattle.text.specs.Pieces.{blank, line-end, lengthened, pieces, some-of, words, lines}
 use Rattle.text.specs.Runs.{run}
 
 module _ (ends : ℕ → Bool) where
@@ -41,6 +41,11 @@ module _ (ends : ℕ → Bool) where
       elim (ends b) as (λ t. cond t ([] ∷ pieces ends (c ∷ bs)) (lengthened b (pieces ends (c ∷ bs))) ≡ take (cond t zero (suc (run ends (c ∷ bs)))) (b ∷ (c ∷ bs)) ∷ pieces ends (drop (suc (cond t zero (suc (run ends (c ∷ bs))))) (b ∷ (c ∷ bs))))
       [ true ↦ refl | false ↦ ap (lengthened b) more ]
 
+  -- the same, by the count of the bytes before
+  pub first-at : (b : ℕ) (bs : List ℕ) (n : ℕ) → n ≡ run ends (b ∷ bs) → pieces ends (b ∷ bs) ≡ take n (b ∷ bs) ∷ pieces ends (drop (n + 1) (b ∷ bs))
+  first-at b bs n is =
+      first-piece b bs ∙ ap (λ k. take k (b ∷ bs) ∷ pieces ends (drop (suc k) (b ∷ bs))) (sym is) ∙ ap (λ k. take n (b ∷ bs) ∷ pieces ends (drop k (b ∷ bs))) (sym (add-one n))
+
 pub words-nil : words [] ≡ []
 unfolding words pieces
 words-nil = refl
@@ -69,3 +74,14 @@ first-word (b ∷ bs) n is lt =
 -- behind the byte at n there are fewer bytes
 pub fewer : (bs : List ℕ) (n : ℕ) → 0 < length bs → length (drop (n + 1) bs) < length bs
 fewer bs n lt = omega (arith, length-drop (n + 1) bs)
+
+pub lines-nil : (bs : List ℕ) → length bs ≡ 0 → lines bs ≡ []
+unfolding lines pieces
+lines-nil [] e = refl
+lines-nil (b ∷ bs) e = absurd (omega arith)
+
+-- the line before the first line feed
+pub first-line : (bs : List ℕ) (n : ℕ) → 0 < length bs → n ≡ run line-end bs → lines bs ≡ take n bs ∷ lines (drop (n + 1) bs)
+unfolding lines
+first-line [] n lt is = absurd (omega arith)
+first-line (b ∷ bs) n lt is = first-at line-end b bs n is

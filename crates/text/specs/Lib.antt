@@ -2,3 +2,4 @@ pub mod Pieces
 pub mod Figures
 pub mod Meaning
 pub mod Runs
+pub mod Texts

@@ -1,9 +1,9 @@
-// The words of a line.
+// The words of a line and the lines of a text.
 ghost use mathlib.Core.Path.{_≡_};
 ghost use Prim.Native.Nat.{_+_, _≤_};
 ghost use lib.ListN.{length, drop};
 ghost use Rattle.std.specs.Options.{Cases as BySome};
-ghost use Rattle.text.specs.Pieces.{blank, words, Handed, Ended};
+ghost use Rattle.text.specs.Pieces.{blank, line-end, words, lines, Handed, Ended};
 ghost use Rattle.text.specs.Runs.{run};
 
 const SPACE: u8 = b' ';
@@ -12,9 +12,17 @@ const TAB: u8 = b'\t';
 
 const CARRIAGE_RETURN: u8 = b'\r';
 
+const LINE_FEED: u8 = b'\n';
+
 // The words of a line that are not handed out yet.
 #[derive(Drop)]
 pub struct Words<'a> {
+    rest: &'a [u8],
+}
+
+// The lines of a text that are not handed out yet.
+#[derive(Drop)]
+pub struct Lines<'a> {
     rest: &'a [u8],
 }
 
@@ -37,6 +45,19 @@ fn word_len(bytes: &[u8]) -> usize
     bytes.len()
 }
 
+// How many bytes stand before the first line feed.
+fn line_len(bytes: &[u8]) -> usize
+    ensures count { λ r. ⌜ r ≡ run line-end (now (bytes .entry)) ⌝ }
+    ensures within { λ r. ⌜ r ≤ length (now (bytes .entry)) ⌝ }
+{
+    for (i, b) in bytes.iter().enumerate() {
+        if *b == LINE_FEED {
+            return i;
+        }
+    }
+    bytes.len()
+}
+
 // What stands behind the byte at n.
 fn behind<'a>(bytes: &'a [u8], n: usize) -> &'a [u8]
     requires { ⌜ n ≤ length (now bytes) ⌝ }
@@ -50,6 +71,7 @@ fn behind<'a>(bytes: &'a [u8], n: usize) -> &'a [u8]
 }
 
 impl<'a> Words<'a> {
+    // All words of a line.
     pub fn new(line: &'a [u8]) -> Words<'a>
         ensures { λ r. ⌜ now (r .rest) ≡ now (line .entry) ⌝ }
     {
@@ -69,5 +91,27 @@ impl<'a> Words<'a> {
             }
         }
         None
+    }
+}
+
+impl<'a> Lines<'a> {
+    // All lines of a text.
+    pub fn new(text: &'a [u8]) -> Lines<'a>
+        ensures { λ r. ⌜ now (r .rest) ≡ now (text .entry) ⌝ }
+    {
+        Lines { rest: text }
+    }
+
+    // The next line.
+    pub fn next(&mut self) -> Option<&'a [u8]>
+        ensures { λ r. ⌜ BySome r (Ended lines (now (now (self .entry) .rest)) (now (now (self .exit) .rest))) (λ w. Handed lines (now (now (self .entry) .rest)) (now w) (now (now (self .exit) .rest))) ⌝ }
+    {
+        if self.rest.len() == 0 {
+            return None;
+        }
+        let n = line_len(self.rest);
+        let line = &self.rest[0..n];
+        self.rest = behind(self.rest, n);
+        Some(line)
     }
 }
