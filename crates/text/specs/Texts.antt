@@ -54,7 +54,7 @@ indent level = replicate (2 * level) 32
 
 -- `  01 41`: an element at its level, by its tag and, if it is primitive, its contents
 abbrev pub element-text : (level tag : ℕ) → List ℕ → (constructed : Bool) → List ℕ
-element-text level tag contents constructed = indent level ++ (spaced hex-text (tag ∷ cond constructed [] contents) ++ line-feed)
+element-text level tag contents constructed = indent level ++ bytes-text (tag ∷ cond constructed [] contents)
 
 -- new bytes that begin with the old
 abbrev pub Begins : (old new : List ℕ) → Type 0

@@ -53,6 +53,28 @@ fn push_number(out: &mut Vec<u8>, before: &[u8], n: u64) -> Result<(), AllocErro
     push_decimal(out, n)
 }
 
+// A text, a number behind it, and the end of the line.
+fn end_number(out: &mut Vec<u8>, before: &[u8], n: u64) -> Result<(), AllocError>
+    ensures { λ r. ⌜ Appends r (vec-items (now (out .entry))) (now (before .entry) ++ (decimal n ++ line-feed)) (vec-items (now (out .exit))) ⌝ }
+{
+    push_number(out, before, n)?;
+    end_line(out)
+}
+
+// Two texts with a number behind each, and the end of the line.
+fn end_numbers(
+    out: &mut Vec<u8>,
+    before: &[u8],
+    n: u64,
+    between: &[u8],
+    m: u64,
+) -> Result<(), AllocError>
+    ensures { λ r. ⌜ Appends r (vec-items (now (out .entry))) (now (before .entry) ++ (decimal n ++ (now (between .entry) ++ (decimal m ++ line-feed)))) (vec-items (now (out .exit))) ⌝ }
+{
+    push_number(out, before, n)?;
+    end_number(out, between, m)
+}
+
 // A digit of base sixteen, in lower case.
 fn hex_char(d: u8) -> u8
     requires { ⌜ d < 16 ⌝ }
@@ -106,10 +128,10 @@ fn push_indent(out: &mut Vec<u8>, level: usize) -> Result<(), AllocError>
 pub fn append_chain(out: &mut Vec<u8>, row: &[u16]) -> Result<(), AllocError>
     ensures { λ r. ⌜ Appends r (vec-items (now (out .entry))) (chain-text (now (row .entry))) (vec-items (now (out .exit))) ⌝ }
 {
-    match row {
-        [] => end_line(out),
-        [first, rest @ ..] => push_numbers(out, *first, rest),
-    }
+    let [first, rest @ ..] = row else {
+        return end_line(out);
+    };
+    push_numbers(out, *first, rest)
 }
 
 // `02 00`: bytes.
@@ -122,6 +144,14 @@ pub fn append_bytes(out: &mut Vec<u8>, bytes: &[u8]) -> Result<(), AllocError>
     }
 }
 
+// An element at its level: its tag and the bytes that are shown of it.
+fn push_element(out: &mut Vec<u8>, level: usize, tag: u8, shown: &[u8]) -> Result<(), AllocError>
+    ensures { λ r. ⌜ Appends r (vec-items (now (out .entry))) (indent level ++ bytes-text (tag ∷ now (shown .entry))) (vec-items (now (out .exit))) ⌝ }
+{
+    push_indent(out, level)?;
+    push_line(out, tag, shown)
+}
+
 // `  01 41`: an element at its level, by its tag and, if it is primitive, its contents.
 pub fn append_element(
     out: &mut Vec<u8>,
@@ -132,11 +162,10 @@ pub fn append_element(
 ) -> Result<(), AllocError>
     ensures { λ r. ⌜ Appends r (vec-items (now (out .entry))) (element-text level tag (now (contents .entry)) constructed) (vec-items (now (out .exit))) ⌝ }
 {
-    push_indent(out, level)?;
     if constructed {
-        push_line(out, tag, b"")
+        push_element(out, level, tag, b"")
     } else {
-        push_line(out, tag, contents)
+        push_element(out, level, tag, contents)
     }
 }
 
@@ -151,15 +180,12 @@ pub fn append_none(out: &mut Vec<u8>) -> Result<(), AllocError>
 pub fn append_ill(out: &mut Vec<u8>, at: u64) -> Result<(), AllocError>
     ensures { λ r. ⌜ Appends r (vec-items (now (out .entry))) (ill-text at) (vec-items (now (out .exit))) ⌝ }
 {
-    push_number(out, b"ill at ", at)?;
-    end_line(out)
+    end_number(out, b"ill at ", at)
 }
 
 // `refused 3 at 7`
 pub fn append_refusal(out: &mut Vec<u8>, number: u64, place: u64) -> Result<(), AllocError>
     ensures { λ r. ⌜ Appends r (vec-items (now (out .entry))) (refusal-text number place) (vec-items (now (out .exit))) ⌝ }
 {
-    push_number(out, b"refused ", number)?;
-    push_number(out, b" at ", place)?;
-    end_line(out)
+    end_numbers(out, b"refused ", number, b" at ", place)
 }

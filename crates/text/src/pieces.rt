@@ -70,6 +70,17 @@ fn behind<'a>(bytes: &'a [u8], n: usize) -> &'a [u8]
     }
 }
 
+// The first line of a text, and what stands behind it.
+fn first_line<'a>(text: &'a [u8]) -> Option<(&'a [u8], &'a [u8])>
+    ensures { λ r. ⌜ BySome r (Ended lines (now (text .entry)) (now (text .entry))) (λ p. Handed lines (now (text .entry)) (now (p .0)) (now (p .1))) ⌝ }
+{
+    if text.len() == 0 {
+        return None;
+    }
+    let n = line_len(text);
+    Some((&text[0..n], behind(text, n)))
+}
+
 impl<'a> Words<'a> {
     // All words of a line.
     pub fn new(line: &'a [u8]) -> Words<'a>
@@ -106,12 +117,8 @@ impl<'a> Lines<'a> {
     pub fn next(&mut self) -> Option<&'a [u8]>
         ensures { λ r. ⌜ BySome r (Ended lines (now (now (self .entry) .rest)) (now (now (self .exit) .rest))) (λ w. Handed lines (now (now (self .entry) .rest)) (now w) (now (now (self .exit) .rest))) ⌝ }
     {
-        if self.rest.len() == 0 {
-            return None;
-        }
-        let n = line_len(self.rest);
-        let line = &self.rest[0..n];
-        self.rest = behind(self.rest, n);
+        let (line, rest) = first_line(self.rest)?;
+        self.rest = rest;
         Some(line)
     }
 }
