@@ -3,3 +3,4 @@ pub mod Figures
 pub mod Meaning
 pub mod Runs
 pub mod Texts
+pub mod Promise
