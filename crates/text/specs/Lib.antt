@@ -1,0 +1,6 @@
+pub mod Pieces
+pub mod Figures
+pub mod Meaning
+pub mod Runs
+pub mod Texts
+pub mod Promise
