@@ -17,5 +17,8 @@ pub use walking::CursorIterator;
 pub use walking::Element;
 pub use walking::cursor_gives_stands;
 pub use writing::WriteError;
+pub use writing::WriteErrorDebug;
+pub use writing::WriteErrorEq;
+pub use writing::WriteErrorPartialEq;
 pub use writing::append_constructed;
 pub use writing::append_primitive;
