@@ -26,7 +26,7 @@ pub record Anchor-in (q : Query) (r : Reached) (k a : ℕ) : Type 0 where
   pub layer : getD (r .far) a 0 ≡ k + 1
   pub anchored : view-pool (q .view) .anchor a ≡ true
 
--- a is a trust anchor in the first layer that has one
+-- a is a trust anchor in layer k, and no layer before that has one
 abbrev pub Topped : Query → Reached → (k a : ℕ) → Type 0
 Topped q r k a = Top (view-pool (q .view)) (q .day) (q .first) (r .far) (r .from) k a
 
