@@ -2,7 +2,6 @@
 ghost use mathlib.Core.Path.{_≡_};
 ghost use lib.ListN.{length};
 ghost use Rattle.std.specs.Options.{Cases};
-ghost use Rattle.trust.specs.Chains.{Pool};
 ghost use Rattle.certificate.specs.Rejections.{number};
 ghost use Rattle.certificate.specs.Views.{view-pool};
 ghost use Rattle.search.specs.Answers.{Answers, Written, rejected-by};
