@@ -78,7 +78,7 @@ words-say [] = Some nothing
 words-say (w ∷ ws) = rest-says (key-of w) ws
 
 -- what a line says; none if it can't be read
-abbrev pub meaning : List ℕ → Option Says
+unfoldable pub meaning : List ℕ → Option Says
 meaning line = words-say (words line)
 
 -- what a command says

@@ -3,7 +3,7 @@ ghost use mathlib.Core.Path.{_≡_};
 ghost use Rattle.std.specs.Options.{mapped};
 ghost use Rattle.std.specs.Vec.{made};
 ghost use Rattle.std.specs.shelf.Text.{sameBytes};
-ghost use Rattle.text.specs.Meaning.{comment, key-of, only-number, day-of, chain-of, piece-of, meaning, says};
+ghost use Rattle.text.specs.Meaning.{comment, key-of, only-number, day-of, chain-of, piece-of, words-say, meaning, says};
 ghost use Rattle.text.specs.Pieces.{words as words-of};
 use crate::figures::parse_number;
 use crate::figures::read_bytes;
@@ -122,11 +122,10 @@ fn read_piece(heap: Global, mut words: Words<'_>) -> Result<Option<Command>, All
     }
 }
 
-// The command that a line is; none if it can't be read.
-pub fn read_line(heap: Global, line: &[u8]) -> Result<Option<Command>, AllocError>
-    ensures { λ r. ⌜ made r (λ o. mapped says o ≡ meaning (now (line .entry))) ⌝ }
+// The command that the words of a line are; none if they can't be read.
+fn read_words(heap: Global, mut words: Words<'_>) -> Result<Option<Command>, AllocError>
+    ensures { λ r. ⌜ made r (λ o. mapped says o ≡ words-say (words-of (now (words .entry .rest)))) ⌝ }
 {
-    let mut words = Words::new(line);
     let Some(word) = words.next() else {
         return Ok(Some(Command::Nothing));
     };
@@ -148,4 +147,11 @@ pub fn read_line(heap: Global, line: &[u8]) -> Result<Option<Command>, AllocErro
         Key::Chain => Ok(read_chain(words)),
         Key::Other => Ok(None),
     }
+}
+
+// The command that a line is; none if it can't be read.
+pub fn read_line(heap: Global, line: &[u8]) -> Result<Option<Command>, AllocError>
+    ensures { λ r. ⌜ made r (λ o. mapped says o ≡ meaning (now (line .entry))) ⌝ }
+{
+    read_words(heap, Words::new(line))
 }
