@@ -14,10 +14,16 @@ use certificate::RejectionPartialEq;
 use certificate::pool_rejection;
 
 mod layout;
+mod place;
+mod promise;
 mod query;
 mod reached;
 
 use layout::lay_out;
+pub use place::rejection_place;
+pub use promise::answer_passes_stands;
+pub use promise::more_answers_stands;
+pub use promise::promise_stands;
 use query::Query;
 use reached::Reached;
 
