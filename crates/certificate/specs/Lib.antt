@@ -1,1 +1,4 @@
 pub mod Sixes
+pub mod Rejections
+pub mod Views
+pub mod Places

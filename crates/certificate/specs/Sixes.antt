@@ -1,6 +1,6 @@
 -- Certificates as six numbers each, signatures and trust anchors as marks: the pool that they say, and when and where they are rejected. Assumes nothing: these are definitions.
 use mathlib.Core.Path.{_≡_}
-use mathlib.Core.Bool.{Bool, true, false, cond, _&&_, _||_}
+use mathlib.Core.Bool.{Bool, true, false, not, _&&_, _||_}
 use mathlib.Core.List.{List, [], _∷_}
 use Prim.Native.Nat.{ℕ, zero, suc, _+_, _*_, _≤_, _<_}
 use lib.Dec.{ltb, leb, eqb}
@@ -34,6 +34,19 @@ all-marks (x ∷ xs) = leb x 1 && all-marks xs
 -- certificate i isn't there whole, or its mark of who may issue is above 1
 abbrev pub faulty : List ℕ → ℕ → Bool
 faulty cs i = ltb (length cs) (6 * i + 6) || ltb 1 (getD cs (6 * i + 4) 0)
+
+-- the test fails at each number below n
+unfoldable pub none-below : (n : ℕ) → (test : ℕ → Bool) → Bool
+none-below zero test = true
+none-below (suc n) test = none-below n test && not (test n)
+
+-- the numbers are those of n certificates: one at least and no more than are taken, six numbers each, and no mark of who may issue above 1
+abbrev pub certificates-well : (n : ℕ) → (certificates : List ℕ) → Bool
+certificates-well n cs = ltb 0 n && (leb n most && (eqb (length cs) (6 * n) && none-below n (faulty cs)))
+
+-- the marks are those of n certificates: one for each two, one for each, and none above 1
+abbrev pub marks-well : (n : ℕ) → (signatures anchors : List ℕ) → Bool
+marks-well n ss ts = eqb (length ss) (n * n) && (eqb (length ts) n && (all-marks ss && all-marks ts))
 
 -- r is the first number below n at which the test holds, or n if there is none
 pub record First (n : ℕ) (test : ℕ → Bool) (r : ℕ) : Type 0 where

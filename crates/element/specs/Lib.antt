@@ -1,3 +1,4 @@
+pub mod Appended
 pub mod Cursors
 pub mod Judged
 pub mod Located

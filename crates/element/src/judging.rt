@@ -40,6 +40,8 @@ pub struct Reader;
 impl Reader {
     // Constructed elements stand within one another at most so deep.
     pub const MAX_DEPTH: usize = 8;
+    // Contents have at most so many bytes.
+    pub const MAX_LENGTH: usize = 65_535;
     // Tags from this one on are of constructed elements.
     pub const CONSTRUCTED: u8 = 128;
     // A tag and the shortest length.
@@ -65,7 +67,7 @@ impl Reader {
     }
 
     // Whether the bytes are a row with so many levels of constructed elements.
-    fn row(bytes: &[u8], depth: usize) -> bool
+    pub(crate) fn row(bytes: &[u8], depth: usize) -> bool
         ensures { λ r. ⌜ Readable depth longest (now (bytes .entry)) r ⌝ }
     {
         let mut rest = bytes;

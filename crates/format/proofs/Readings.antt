@@ -1,15 +1,15 @@
 -- One reading: what bytes read as is unique, whether they read as a row is decided, and how a reader goes from element to element. Assumes nothing.
 use mathlib.Core.Path.{_≡_, refl, sym, ap, ap₂, subst, _∙_}
 use mathlib.Core.Bool.{Bool, true, false}
-use mathlib.Core.List.{List, [], _∷_, _++_}
+use mathlib.Core.List.{List, [], _∷_, _++_, append-nil}
 use mathlib.Core.Logic.{_⊎_, inl, inr, ⊎-elim}
 use Prim.Native.Nat.{ℕ, zero, suc, _+_, _≤_, _<_}
 use native.Mathlib.Omega.{arith}
 use lib.ListN.{length}
-use Rattle.std.proofs.shelf.Tests.{cases-lt, cases-bool, both-ways}
+use Rattle.std.proofs.shelf.Tests.{cases-lt, cases-bool, both-ways, false≢true}
 use Rattle.std.proofs.shelf.Lists.{nil-from-length}
 use Rattle.format.specs.Elements.{Row, empty, primitive, constructed, framed, written, all-bytes, well-formed, Reads, Readable}
-use Rattle.format.specs.Promise.{One-reading}
+use Rattle.format.specs.Promise.{One-reading, Same-front, Written-once, single}
 use Rattle.format.proofs.Fronts.{Front, front, same-front}
 use Rattle.format.proofs.Rows.{primitive-parts, primitive-from, constructed-parts, constructed-from, framed-size, Goes-on, as-primitive, as-constructed, goes-on, has-front}
 
@@ -132,3 +132,24 @@ one-reading d m b = go (decide (length b) d m b le .0) (decide (length b) d m b 
     go : (v : Bool) → Readable d m b v → ((row : Row) × Reads d m b row × ((other : Row) → Reads d m b other → other ≡ row)) ⊎ ((row : Row) → Reads d m b row → ⊥)
     go true h = inl (h .0, h .1, λ other g. same-reading d m b (h .0) other (h .1) g)
     go false h = inr h
+
+-- a single element is a tag with contents
+single-framed : (a : Row) → single a ≡ true → (t : ℕ) × (c : List ℕ) × (written a ≡ framed t c)
+unfolding written
+single-framed empty h = absurd (false≢true h)
+single-framed (primitive t c empty) h = (t, c, append-nil (framed t c))
+single-framed (primitive t c (primitive u e r)) h = absurd (false≢true h)
+single-framed (primitive t c (constructed u e r)) h = absurd (false≢true h)
+single-framed (constructed t q empty) h = (t, written q, append-nil (framed t (written q)))
+single-framed (constructed t q (primitive u e r)) h = absurd (false≢true h)
+single-framed (constructed t q (constructed u e r)) h = absurd (false≢true h)
+
+pub same-element : Same-front
+same-element d m a b u v sa sb wa wb e =
+    let (t, c, fa) = single-framed a sa in
+    let (k, x, fb) = single-framed b sb in
+    let s = same-front t k c x u v (ap (λ l. l ++ u) (sym fa) ∙ e ∙ ap (λ l. l ++ v) fb) in
+    (unique a b d d m m wa wb (fa ∙ (λ i. framed (s .0 i) (s .1 i)) ∙ sym fb), s .2)
+
+pub written-once : Written-once
+written-once d m row w = (record { well = w; writing = refl }, λ b h. sym (h .writing))

@@ -1,10 +1,11 @@
 -- What is promised of the format, for every depth and greatest length. Each is a statement; a function of the crate has it as its contract. Assumes nothing: these are definitions.
 use mathlib.Core.Path.{_≡_}
+use mathlib.Core.Bool.{Bool, true, false}
 use mathlib.Core.List.{List, [], _∷_, _++_}
 use mathlib.Core.Logic.{_⊎_}
 use Prim.Native.Nat.{ℕ, _≤_}
 use lib.ListN.{length, take, drop}
-use Rattle.format.specs.Elements.{Row, empty, primitive, constructed, framed, written, Reads}
+use Rattle.format.specs.Elements.{Row, empty, primitive, constructed, written, well-formed, Reads}
 use Rattle.format.specs.Paths.{at-path, place}
 
 -- one reading: of all bytes it is decided whether they read as a row, and what they read as is one row only
@@ -13,9 +14,26 @@ One-reading =
     (depth longest : ℕ) (bytes : List ℕ)
     → ((row : Row) × Reads depth longest bytes row × ((other : Row) → Reads depth longest bytes other → other ≡ row)) ⊎ ((row : Row) → Reads depth longest bytes row → ⊥)
 
--- an element ends where it ends: if two elements, each with something behind it, are the same bytes, then they have the same tag, the same contents and the same behind them
+-- a row of one element
+abbrev pub single : Row → Bool
+single empty = false
+single (primitive t c empty) = true
+single (primitive t c (primitive u e r)) = false
+single (primitive t c (constructed u e r)) = false
+single (constructed t q empty) = true
+single (constructed t q (primitive u e r)) = false
+single (constructed t q (constructed u e r)) = false
+
+-- an element ends where it ends: if two elements, each with something behind it, are the same bytes, then they are the same element with the same behind it
 abbrev pub Same-front : Type 0
-Same-front = (t u : ℕ) (c e : List ℕ) (r s : List ℕ) → framed t c ++ r ≡ framed u e ++ s → (t ≡ u) × (c ≡ e) × (r ≡ s)
+Same-front =
+    (depth longest : ℕ) (a b : Row) (u v : List ℕ)
+    → single a ≡ true → single b ≡ true → well-formed depth longest a ≡ true → well-formed depth longest b ≡ true → written a ++ u ≡ written b ++ v → (a ≡ b) × (u ≡ v)
+
+-- what is written is read as what it was, and there is no other writing of it
+abbrev pub Written-once : Type 0
+Written-once =
+    (depth longest : ℕ) (row : Row) → well-formed depth longest row ≡ true → Reads depth longest (written row) row × ((bytes : List ℕ) → Reads depth longest bytes row → bytes ≡ written row)
 
 -- what narrower limits take, wider ones read as the same row
 abbrev pub Wider : Type 0

@@ -1,5 +1,5 @@
 // The format of elements: what is promised of it, each promise on a function of its own.
-ghost use Rattle.format.specs.Promise.{One-reading, Same-front, Wider, Part-of-bytes, One-path, Samples};
+ghost use Rattle.format.specs.Promise.{One-reading, Same-front, Written-once, Wider, Part-of-bytes, One-path, Samples};
 
 // All bytes are one row of elements or malformed, and which is decided.
 pub fn one_reading_stands() -> u8
@@ -11,6 +11,13 @@ pub fn one_reading_stands() -> u8
 // An element ends where it ends, whatever stands behind it.
 pub fn same_front_stands() -> u8
     ensures { λ _. ⌜ Same-front ⌝ }
+{
+    0
+}
+
+// What is written is read as what it was, and there is no other writing of it.
+pub fn written_once_stands() -> u8
+    ensures { λ _. ⌜ Written-once ⌝ }
 {
     0
 }

@@ -1,11 +1,11 @@
 -- What is promised of chains. Each is a statement; a function of the crate has it as its contract. Assumes nothing: these are definitions.
 use mathlib.Core.Path.{_≡_}
-use mathlib.Core.Bool.{true, false}
+use mathlib.Core.Bool.{true}
 use mathlib.Core.List.{List}
 use mathlib.Core.Logic.{_⊎_}
 use Prim.Native.Nat.{ℕ, _+_, _≤_, _<_}
 use lib.ListN.{length, getD}
-use Rattle.trust.specs.Chains.{Certificate, Pool, holds, issues, climbs, Chain, Shortest, Extends}
+use Rattle.trust.specs.Chains.{Pool, holds, issues, Chain, Shortest, Extends}
 
 -- there is a shortest chain, or no chain at all
 abbrev pub Chain-or-none : Type 0

@@ -1,0 +1,3 @@
+pub mod Laying
+pub mod Ends
+pub mod Follows

@@ -1,0 +1,5 @@
+pub mod Cuts
+pub mod Values
+pub mod Written
+pub mod Laws
+pub mod Again
