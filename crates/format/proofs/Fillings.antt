@@ -9,7 +9,6 @@ use lib.ListN.{length, length-append}
 use Rattle.std.proofs.shelf.Lists.{nil-from-length}
 use Rattle.std.proofs.shelf.Tests.{cases-eq}
 use Rattle.format.specs.Elements.{Row, empty, written-length, framed, all-bytes, Reads, Readable}
-use Rattle.format.proofs.Lengths.{short, Says, says}
 use Rattle.format.proofs.Readings.{readable-none, reads-none, after-primitive}
 use Rattle.format.proofs.Rests.{taken, Cut, Fills, Closes, room, deduct, Headed, headed, Inside, primitive-came, constructed-came}
 use Rattle.format.proofs.Rows.{framed-size, Goes-on, as-primitive, as-constructed, has-front}
@@ -36,7 +35,8 @@ pub record Heading (d m : ℕ) (rows : List ℕ) (t : ℕ) (b : List ℕ) : Type
   pub fits : n ≤ m
   pub kind : Kind d t n
   pub enough : Enough rows (taken n)
-  pub says : Says b n
+  pub tail : List ℕ
+  pub is : b ≡ written-length n ++ tail
 
 enough-from : (d m k : ℕ) (rows x y : List ℕ) (row : Row) → Reads d m x row → Closes d m rows (k + length x) y → Enough rows k
 enough-from d m k [] x y row h c = c
@@ -46,15 +46,15 @@ enough-from d m k (r ∷ (s ∷ rs)) x y row h c = (omega (arith, c .0), λ e. n
 pub heading : (d m : ℕ) (rows : List ℕ) (t : ℕ) (b : List ℕ) → 0 < room rows → Fills d m rows (t ∷ b) → Heading d m rows t b
 heading d m rows t b some f =
     let h = headed d m rows t b some f in
-    let told = says b (length (h .contents)) (h .contents ++ (h .behind ++ h .outer)) (h .is) in
     elim (h .goes) [
-      | as-primitive x y z rest k ↦ record { n = length (h .contents); fits = z; kind = inl x; enough = enough-from d m (taken (length (h .contents))) rows (h .behind) (h .outer) rest k (h .closes); says = told }
+      | as-primitive x y z rest k ↦ record { n = length (h .contents); fits = z; kind = inl x; enough = enough-from d m (taken (length (h .contents))) rows (h .behind) (h .outer) rest k (h .closes); tail = h .contents ++ (h .behind ++ h .outer); is = h .is }
       | as-constructed less x y z w q k rest l ↦ record {
         n = length (h .contents);
         fits = w;
         kind = inr (y, z, omega arith, never-one less m (h .contents) q k);
         enough = enough-from d m (taken (length (h .contents))) rows (h .behind) (h .outer) rest l (h .closes);
-        says = told;
+        tail = h .contents ++ (h .behind ++ h .outer);
+        is = h .is;
       }
     ]
 
