@@ -1,3 +1,4 @@
+pub mod Bytes
 pub mod Fillings
 pub mod Fronts
 pub mod Lengths

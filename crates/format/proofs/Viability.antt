@@ -1,16 +1,16 @@
 -- Viable bytes: fewer of them are viable too, and malformed bytes have one place, which is found if viability is decided. Assumes nothing.
-use mathlib.Core.Path.{_≡_, refl, sym, ap, subst, _∙_}
-use mathlib.Core.Bool.{Bool, true, false, _&&_}
-use mathlib.Core.List.{List, [], _∷_, _++_, append-assoc}
+use mathlib.Core.Path.{_≡_, sym, ap, subst, _∙_}
+use mathlib.Core.Bool.{true}
+use mathlib.Core.List.{List, [], _++_, append-assoc}
 use mathlib.Core.Logic.{_⊎_, inl, inr, ⊎-elim}
-use Prim.Native.Nat.{ℕ, zero, suc, _+_, _-_, _≤_, _<_}
+use Prim.Native.Nat.{ℕ, zero, suc, _+_, _≤_}
 use native.Mathlib.Omega.{arith}
-use lib.Dec.{ltb}
 use lib.ListN.{length, take, drop, take-append-drop}
-use Rattle.std.proofs.shelf.Lists.{take-all, take-take}
-use Rattle.std.proofs.shelf.Tests.{and-parts, and-from, cases-order, cases-eq}
+use Rattle.std.proofs.shelf.Lists.{take-take}
+use Rattle.std.proofs.shelf.Tests.{cases-order}
 use Rattle.format.specs.Elements.{Row, empty, all-bytes, Reads}
 use Rattle.format.specs.Viable.{Viable, Ill-at, One-place}
+use Rattle.format.proofs.Bytes.{all-bytes-take}
 use Rattle.format.proofs.Readings.{reads-none}
 
 pub viable-before : (d m : ℕ) (b c : List ℕ) → Viable d m (b ++ c) → Viable d m b
@@ -31,12 +31,6 @@ same-place d m b p q f g =
     (⊎-elim (λ l. absurd (f .here (omega (arith, g .within)) (viable-take d m (p + 1) q b (omega arith) (g .before)))) (λ l. absurd (g .here (omega (arith, f .within)) (viable-take d m (q + 1) p b (omega arith) (f .before)))))
     (cases-order p q)
 
-all-bytes-front : (n : ℕ) (b : List ℕ) → all-bytes b ≡ true → all-bytes (take n b) ≡ true
-unfolding all-bytes
-all-bytes-front zero b h = refl
-all-bytes-front (suc n) [] h = h
-all-bytes-front (suc n) (x ∷ b) h = let p = and-parts (ltb x 256) (all-bytes b) h in and-from (ltb x 256) (all-bytes (take n b)) (p .0) (all-bytes-front n b (p .1))
-
 -- the place is looked for from where the bytes are viable
 find-place : (d m : ℕ) (b : List ℕ) → ((k : ℕ) → Viable d m (take k b) ⊎ (Viable d m (take k b) → ⊥)) → ((row : Row) → Reads d m b row → ⊥) → (fuel k : ℕ) → k + fuel ≡ length b → Viable d m (take k b) → (at : ℕ) × Ill-at d m b at
 find-place d m b decided none zero k h v = (k, record { within = omega arith; before = v; here = λ l. absurd (omega arith); end = λ e. none })
@@ -45,5 +39,5 @@ find-place d m b decided none (suc fuel) k h v = ⊎-elim (λ y. find-place d m 
 -- where viability is decided, malformed bytes have exactly one place
 pub one-place : (d m : ℕ) → ((b : List ℕ) → all-bytes b ≡ true → Viable d m b ⊎ (Viable d m b → ⊥)) → One-place d m
 one-place d m decided b bytes none =
-    let found = find-place d m b (λ k. decided (take k b) (all-bytes-front k b bytes)) none (length b) 0 (omega arith) (viable-none d m) in
+    let found = find-place d m b (λ k. decided (take k b) (all-bytes-take k b bytes)) none (length b) 0 (omega arith) (viable-none d m) in
     (found .0, found .1, λ other h. same-place d m b other (found .0) h (found .1))

@@ -37,13 +37,16 @@ impl Place {
 
     // How many bytes a header takes by the form of its length.
     const SHORT_HEADER: u8 = 2;
+
     const ONE_BYTE_HEADER: u8 = 3;
+
     const TWO_BYTES_HEADER: u8 = 4;
 
     // Bytes of a row that no constructed element begins: empty it leaves one byte, and one byte is no row.
     const NO_CONSTRUCTED: usize = 3;
     // The least that an element takes whose length has one byte behind 129, and two behind 130.
     const ONE_BYTE_LEAST: usize = 131;
+
     const TWO_BYTES_LEAST: usize = 260;
 
     // The place behind one more byte, in a row with so much room in which so many levels may open.
@@ -73,7 +76,11 @@ impl Place {
             Place::Contents { left } => Place::Contents {
                 left: left.saturating_sub(1),
             },
-            Place::Header { tag: _, size: _, len: _ } => Place::Nowhere,
+            Place::Header {
+                tag: _,
+                size: _,
+                len: _,
+            } => Place::Nowhere,
             Place::Nowhere => Place::Nowhere,
         }
     }
