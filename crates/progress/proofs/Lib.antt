@@ -1,3 +1,4 @@
+pub mod Gone
 pub mod Places
 pub mod Resting
 pub mod Rooms

@@ -1,9 +1,10 @@
 -- What a reader that goes byte by byte says of the bytes. Assumes nothing: these are definitions.
 use mathlib.Core.Path.{_≡_}
 use mathlib.Core.Bool.{true, false, cond}
-use mathlib.Core.List.{List}
-use Prim.Native.Nat.{ℕ}
+use mathlib.Core.List.{List, _++_}
+use Prim.Native.Nat.{ℕ, min}
 use lib.Dec.{eqb}
+use lib.ListN.{length}
 use Rattle.std.specs.declared.option.Option.{Option}
 use Rattle.std.specs.declared.option.Option.the-variants.{Some, None}
 use Rattle.format.specs.Elements.{all-bytes, Readable}
@@ -47,6 +48,23 @@ status-at levels (LowByte t h) = Within
 status-at levels (Header t size n) = Within
 status-at levels (Contents n) = Within
 status-at levels Nowhere = Dead
+
+-- how many bytes of a primitive's contents are still to come
+abbrev pub contents-left : Place → ℕ
+contents-left (Contents n) = n
+contents-left Tag = 0
+contents-left (Length t) = 0
+contents-left (OneByte t) = 0
+contents-left (TwoBytes t) = 0
+contents-left (LowByte t h) = 0
+contents-left (Header t size n) = 0
+contents-left Nowhere = 0
+
+-- going over as many of those as are there, at most so many: the same as going over any bytes byte by byte, and viable bytes stay viable
+pub record Skipped (p : Progress) (most over : ℕ) (q : Progress) : Type 0 where
+  pub far : over ≡ min most (contents-left (p .place))
+  pub same : (bytes : List ℕ) → length bytes ≡ over → state q ≡ run (state p) bytes
+  pub viable : (before bytes : List ℕ) → Gone p before → length bytes ≡ over → all-bytes bytes ≡ true → Viable deepest longest before → Viable deepest longest (before ++ bytes)
 
 -- none exactly if the bytes read as a row, else the place where they are malformed
 abbrev pub Placed : List ℕ → Option ℕ → Type 0

@@ -5,7 +5,7 @@ ghost use Prim.Native.Nat.{ℕ, _≤_, _+_};
 ghost use lib.ListN.{length, drop};
 ghost use Rattle.format.specs.Viable.{One-place};
 ghost use Rattle.progress.specs.Machine.{State, start, at-place, entered, spent, settled, stepped, full};
-ghost use Rattle.progress.specs.Progressed.{state};
+ghost use Rattle.progress.specs.Progressed.{deepest, longest, state, Gone, Says, status-at, Skipped, Placed};
 use crate::place::Place;
 use crate::state::Progress;
 use crate::state::Status;
@@ -30,6 +30,7 @@ impl Progress {
     // Goes over a byte.
     pub fn step(&mut self, byte: u8) -> Status
         ensures goes { λ _. ⌜ state (now (self .exit)) ≡ stepped (state (now (self .entry))) byte ⌝ }
+        ensures says { λ r. ⌜ ((b : List ℕ) → Gone (now (self .entry)) b → Says (b ++ (byte ∷ [])) r) ⌝ }
     {
         let room = self.rooms[self.levels];
         let place = self.place.next(room, self.levels, byte);
@@ -104,7 +105,10 @@ impl Progress {
     }
 
     // What is known of the bytes so far.
-    pub fn status(&self) -> Status {
+    pub fn status(&self) -> Status
+        ensures is { λ r. ⌜ r ≡ status-at (now (self .entry) .levels) (now (self .entry) .place) ⌝ }
+        ensures says { λ r. ⌜ ((b : List ℕ) → Gone (now (self .entry)) b → Says b r) ⌝ }
+    {
         match self.place {
             Place::Nowhere => Status::Dead,
             Place::Tag => {
@@ -117,14 +121,50 @@ impl Progress {
             _ => Status::Within,
         }
     }
+
+    // Goes over the contents of a primitive element, at most so many bytes, whatever they are; answers how many.
+    pub fn skip(&mut self, most: usize) -> usize
+        ensures { λ r. ⌜ Skipped (now (self .entry)) most r (now (self .exit)) ⌝ }
+    {
+        let Place::Contents { left } = self.place else {
+            return 0;
+        };
+        let over = if most < left as usize {
+            most as u16
+        } else {
+            left
+        };
+        if over == 0 {
+            return 0;
+        }
+        self.place = Place::Contents { left: left - over };
+        self.settle();
+        over as usize
+    }
 }
 
 // Where malformed bytes are malformed, and none if they read as a row.
-pub fn ill_place(bytes: &[u8]) -> Option<usize> {
-    None
+pub fn ill_place(bytes: &[u8]) -> Option<usize>
+    ensures { λ r. ⌜ Placed (now (bytes .entry)) r ⌝ }
+{
+    let mut reader = Progress::new();
+    let mut at = 0;
+    while at < bytes.len() {
+        if let Status::Dead = reader.step(bytes[at]) {
+            return Some(at);
+        }
+        at += 1;
+        at += reader.skip(bytes.len() - at);
+    }
+    match reader.status() {
+        Status::Ends => None,
+        _ => Some(bytes.len()),
+    }
 }
 
 // Malformed bytes have exactly one place.
-pub fn one_place_stands() -> u8 {
+pub fn one_place_stands() -> u8
+    ensures { λ _. ⌜ One-place deepest longest ⌝ }
+{
     0
 }
