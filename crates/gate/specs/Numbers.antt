@@ -14,7 +14,7 @@ use Rattle.gate.specs.declared.ChainAnswer.{ChainAnswer}
 -- 0 if the bytes are well-formed, k + 1 if they are ill at k
 abbrev pub verdict-number : Verdict → ℕ
 verdict-number Well = 0
-verdict-number Ill = 1
+verdict-number (Ill k) = k + 1
 
 -- place and size of an element; 0 and 0 if there is none
 abbrev pub span-part : Option Span → Part

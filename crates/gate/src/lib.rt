@@ -2,10 +2,13 @@
 ghost use mathlib.Core.Path.{_≡_};
 ghost use Rattle.std.specs.declared.option.Option.{Option};
 ghost use Rattle.element.specs.declared.paths.Span.{Span as Place};
+ghost use Rattle.element.specs.declared.judging.Verdict.{Verdict as Judgement};
+ghost use Rattle.element.specs.Judged.{Judged};
 ghost use Rattle.element.specs.Located.{Located};
 ghost use Rattle.search.specs.declared.Answer.{Answer as Told};
 ghost use Rattle.search.specs.Answers.{Answers};
-ghost use Rattle.gate.specs.Numbers.{span-part, answer-numbers};
+ghost use Rattle.gate.specs.Numbers.{verdict-number, span-part, answer-numbers};
+use element::Verdict;
 use element::locate;
 use search::Answer;
 use search::find_chain;
@@ -26,12 +29,14 @@ pub struct ChainAnswer {
     pub len: u64,
 }
 
-// Whether the bytes are a row of elements.
+// Whether the bytes are a row of elements: 0 if they are, k + 1 if they are ill at k.
 #[unsafe(no_mangle)]
-pub extern "C" fn judge(bytes: &[u8]) -> u64 {
+pub extern "C" fn judge(bytes: &[u8]) -> u64
+    ensures { λ r. ⌜ ((v : Judgement) × Judged (now (bytes .entry)) v × (r ≡ verdict-number v)) ⌝ }
+{
     match element::judge(bytes) {
-        element::Verdict::Well => 0,
-        element::Verdict::Ill => 1,
+        Verdict::Well => 0,
+        Verdict::Ill { at } => at as u64 + 1,
     }
 }
 

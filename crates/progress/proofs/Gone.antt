@@ -83,7 +83,7 @@ skipped-some p q most n over at some e is =
       far = e ∙ ap (λ k. min most (contents-left k)) (sym at);
       same = same;
       viable = λ b xs h l bytes v. let g = gone-more p q b xs h bytes (same xs l) in
-      viable-alive (run start (b ++ xs)) (b ++ xs) (after (b ++ xs) (g .each)) (subst (λ (s : State). Alive (s .place)) (sym is ∙ g .is) (alive-settled (state p) (n - over)));
+          viable-alive (run start (b ++ xs)) (b ++ xs) (after (b ++ xs) (g .each)) (subst (λ (s : State). Alive (s .place)) (sym is ∙ g .is) (alive-settled (state p) (n - over)));
     }
   where
     same : (xs : List ℕ) → length xs ≡ over → state q ≡ run (state p) xs
@@ -108,7 +108,7 @@ take-further : (b : List ℕ) (at k : ℕ) → take (at + k) b ≡ take at b ++ 
 take-further b at k = sym (take-append-drop at (take (at + k) b)) ∙ ap (λ l. l ++ drop at (take (at + k) b)) (take-take at (at + k) b (omega arith)) ∙ ap (λ l. take at b ++ l) (drop-take at k b)
 
 module _ (b : List ℕ) (p q : Progress) (at : ℕ) (h : Reading b p at) (some : at < length b) (st : Status)
-  (goes : state q ≡ stepped (state p) (getD b at 0)) (says : (c : List ℕ) → Gone p c → Says (c ++ (getD b at 0 ∷ [])) st) where
+    (goes : state q ≡ stepped (state p) (getD b at 0)) (says : (c : List ℕ) → Gone p c → Says (c ++ (getD b at 0 ∷ [])) st) where
   says-here : Says (take (at + 1) b) st
   says-here = subst (λ l. Says l st) (sym (take-more b at 0 some)) (says (take at b) (h .gone))
 
