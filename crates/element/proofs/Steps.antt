@@ -1,37 +1,21 @@
 -- How a reader goes from element to element: what is behind the first one, or within it, decides. Assumes nothing.
 use mathlib.Core.Path.{_≡_, refl, sym, ap, subst, _∙_}
-use mathlib.Core.Bool.{Bool, true, false, _&&_}
+use mathlib.Core.Bool.{Bool, true, false}
 use mathlib.Core.List.{List, [], _∷_, _++_}
 use mathlib.Core.Logic.{⊎-elim}
 use Prim.Native.Nat.{ℕ, zero, suc, _+_, _-_, _≤_, _<_}
 use native.Mathlib.Omega.{arith}
-use lib.Dec.{ltb, eqb}
+use lib.Dec.{eqb}
 use lib.ListN.{length, getD, take, drop, length-drop}
 use lib.Seq.{length-take-le}
 use Rattle.std.proofs.shelf.Lists.{nil-from-length, drop-all, take-all, take-rest}
-use Rattle.std.proofs.shelf.Tests.{and-parts, and-from, lt-ltb, eq-eqb, ne-eqb, cases-eq}
+use Rattle.std.proofs.shelf.Tests.{eq-eqb, ne-eqb, cases-eq}
 use Rattle.format.specs.Elements.{all-bytes, Readable}
+use Rattle.format.proofs.Bytes.{all-bytes-drop, all-bytes-take}
 use Rattle.format.proofs.Readings.{readable-none, after-primitive, after-constructed, contents-malformed, too-deep, no-front}
 use Rattle.element.specs.Judged.{longest}
 use Rattle.element.specs.Openings.{Opens, Decides}
 use Rattle.element.proofs.Openings.{Shut, front-of, opens-short, shut-few}
-
-pub all-bytes-from : (b : List ℕ) → ((i : ℕ) → getD b i 0 < 256) → all-bytes b ≡ true
-unfolding all-bytes
-all-bytes-from [] h = refl
-all-bytes-from (x ∷ b) h = and-from (ltb x 256) (all-bytes b) (lt-ltb x 256 (h 0)) (all-bytes-from b (λ i. h (suc i)))
-
-pub all-bytes-drop : (n : ℕ) (b : List ℕ) → all-bytes b ≡ true → all-bytes (drop n b) ≡ true
-unfolding all-bytes
-all-bytes-drop zero b h = h
-all-bytes-drop (suc n) [] h = h
-all-bytes-drop (suc n) (x ∷ b) h = all-bytes-drop n b (and-parts (ltb x 256) (all-bytes b) h .1)
-
-pub all-bytes-take : (n : ℕ) (b : List ℕ) → all-bytes b ≡ true → all-bytes (take n b) ≡ true
-unfolding all-bytes
-all-bytes-take zero b h = refl
-all-bytes-take (suc n) [] h = h
-all-bytes-take (suc n) (x ∷ b) h = let p = and-parts (ltb x 256) (all-bytes b) h in and-from (ltb x 256) (all-bytes (take n b)) (p .0) (all-bytes-take n b (p .1))
 
 module _ (b : List ℕ) (t s e : ℕ) (o : Opens b t s e) where
   -- the contents of the first element

@@ -3,7 +3,7 @@ use mathlib.Core.List.{List}
 use Prim.Native.Nat.{ℕ}
 use Rattle.format.specs.Elements.{Row, Reads}
 use Rattle.format.specs.Viable.{Ill-at}
-pub use Rattle.progress.specs.Progressed.{deepest, longest}
+pub use Rattle.progress.specs.Limits.{deepest, longest}
 use Rattle.element.specs.declared.judging.Verdict.{Verdict}
 use Rattle.element.specs.declared.judging.Verdict.the-variants.{Well, Ill}
 

@@ -1,17 +1,16 @@
 -- When open rows can be completed: what a header that has begun asks of the room, rows that are full, and bytes that fill a row. Assumes nothing.
 use mathlib.Core.Path.{_≡_, refl, sym, ap, subst, _∙_}
-use mathlib.Core.Bool.{Bool, true, false}
+use mathlib.Core.Bool.{true}
 use mathlib.Core.List.{List, [], _∷_, _++_, append-nil}
 use mathlib.Core.Logic.{_⊎_, inl, inr, ⊎-elim}
-use Prim.Native.Nat.{ℕ, zero, suc, _+_, _-_, _≤_, _<_}
+use Prim.Native.Nat.{ℕ, zero, suc, _+_, _≤_, _<_}
 use native.Mathlib.Omega.{arith}
 use lib.ListN.{length, length-append}
 use Rattle.std.proofs.shelf.Lists.{nil-from-length}
-use Rattle.std.proofs.shelf.Tests.{cases-eq}
 use Rattle.format.specs.Elements.{Row, empty, written-length, framed, all-bytes, Reads, Readable}
 use Rattle.format.proofs.Readings.{readable-none, reads-none, after-primitive}
-use Rattle.format.proofs.Rests.{taken, Cut, Fills, Closes, room, deduct, Headed, headed, Inside, primitive-came, constructed-came}
-use Rattle.format.proofs.Rows.{framed-size, Goes-on, as-primitive, as-constructed, has-front}
+use Rattle.format.proofs.Rests.{taken, Fills, Closes, room, deduct, headed, Inside, primitive-came, constructed-came}
+use Rattle.format.proofs.Rows.{framed-size, as-primitive, as-constructed, has-front}
 
 -- no row is one byte
 pub never-one : (d m : ℕ) (b : List ℕ) (row : Row) → Reads d m b row → length b ≡ 1 → ⊥

@@ -1,18 +1,18 @@
 -- What completes rows that are open: the innermost row needs so many bytes more, then the row around it, and so on; the outermost ends with the bytes. Assumes nothing.
 use mathlib.Core.Path.{_≡_, refl, sym, ap, subst, _∙_}
-use mathlib.Core.Bool.{Bool, true, false}
-use mathlib.Core.List.{List, [], _∷_, _++_, append-assoc, append-nil}
-use mathlib.Core.Logic.{_⊎_, inl, inr, ⊎-elim}
-use Prim.Native.Nat.{ℕ, zero, suc, _+_, _-_, _≤_, _<_}
+use mathlib.Core.Bool.{true}
+use mathlib.Core.List.{List, [], _∷_, _++_, append-assoc}
+use mathlib.Core.Logic.{⊎-elim}
+use Prim.Native.Nat.{ℕ, suc, _+_, _-_, _≤_, _<_}
 use native.Mathlib.Omega.{arith}
 use lib.ListN.{length, length-append}
 use Rattle.std.proofs.shelf.Lists.{nil-from-length}
 use Rattle.std.proofs.shelf.Tests.{cases-lt}
-use Rattle.format.specs.Elements.{Row, empty, written-length, framed, all-bytes, Reads, Readable}
+use Rattle.format.specs.Elements.{Row, written-length, framed, all-bytes, Reads, Readable}
 use Rattle.format.proofs.Fronts.{Front, framed-is}
-use Rattle.format.proofs.Lengths.{same-length, short}
-use Rattle.format.proofs.Readings.{readable-none, reads-none, after-primitive, after-constructed}
-use Rattle.format.proofs.Rows.{framed-size, Goes-on, as-primitive, as-constructed, goes-on, has-front}
+use Rattle.format.proofs.Lengths.{same-length}
+use Rattle.format.proofs.Readings.{after-primitive, after-constructed}
+use Rattle.format.proofs.Rows.{Goes-on, as-primitive, as-constructed, goes-on, has-front}
 
 -- how many bytes an element with n bytes of contents takes
 abbrev pub taken : ℕ → ℕ

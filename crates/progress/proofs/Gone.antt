@@ -2,8 +2,7 @@
 use mathlib.Core.Path.{_≡_, refl, sym, ap, subst, _∙_}
 use mathlib.Core.Bool.{true}
 use mathlib.Core.List.{List, [], _∷_, _++_, append-nil}
-use mathlib.Core.Logic.{⊎-elim}
-use Prim.Native.Nat.{ℕ, zero, suc, _+_, _-_, _≤_, _<_, min}
+use Prim.Native.Nat.{ℕ, _+_, _-_, _≤_, _<_, min}
 use native.Mathlib.Omega.{arith}
 use lib.Dec.{eqb}
 use lib.ListN.{length, getD, take, drop, length-take, length-drop}
@@ -11,10 +10,11 @@ use Rattle.std.proofs.shelf.Lists.{nil-from-length, take-more, take-all, take-a
 use Rattle.std.proofs.shelf.Tests.{cond-both, cond-false, ne-eqb}
 use Rattle.std.specs.declared.option.Option.the-variants.{Some, None}
 use Rattle.format.specs.Elements.{Row, all-bytes, Reads, Readable}
-use Rattle.format.specs.Viable.{Viable, Ill-at}
+use Rattle.format.specs.Viable.{Viable}
 use Rattle.format.proofs.Bytes.{all-bytes-append, all-bytes-one, all-bytes-take, all-bytes-drop}
 use Rattle.format.proofs.Viability.{viable-none}
-use Rattle.progress.specs.Progressed.{deepest, longest, state, Gone, Says, status-at, Skipped, Placed, contents-left}
+use Rattle.progress.specs.Limits.{deepest, longest}
+use Rattle.progress.specs.Progressed.{state, Gone, Says, status-at, Skipped, Placed, contents-left}
 use Rattle.progress.specs.Machine.{State, start, at-place, unfilled, settled, stepped, run}
 use Rattle.progress.specs.declared.place.Place.{Place}
 use Rattle.progress.specs.declared.place.Place.the-variants.{Tag, Length, OneByte, TwoBytes, LowByte, Header, Contents, Nowhere}
@@ -22,7 +22,7 @@ use Rattle.progress.specs.declared.state.Progress.{Progress}
 use Rattle.progress.specs.declared.state.Status.{Status}
 use Rattle.progress.specs.declared.state.Status.the-variants.{Ends, Within, Dead}
 use Rattle.progress.proofs.Resting.{Alive}
-use Rattle.progress.proofs.Runs.{after, After, viable-alive, viable-end, run-says}
+use Rattle.progress.proofs.Runs.{after, viable-alive, viable-end, run-says}
 
 run-append : (s : State) (a b : List ℕ) → run s (a ++ b) ≡ run (run s a) b
 unfolding run
@@ -64,6 +64,7 @@ skipped-none p most e =
     record {
       far = e;
       same = λ xs l. ap (run (state p)) (sym (nil-from-length xs l));
+      gone = λ b xs h l bytes. subst (Gone p) (sym (ap (λ c. b ++ c) (nil-from-length xs l) ∙ append-nil b)) h;
       viable = λ b xs h l bytes v. subst (Viable deepest longest) (sym (ap (λ c. b ++ c) (nil-from-length xs l) ∙ append-nil b)) v;
     }
 
@@ -82,6 +83,7 @@ skipped-some p q most n over at some e is =
     record {
       far = e ∙ ap (λ k. min most (contents-left k)) (sym at);
       same = same;
+      gone = λ b xs h l bytes. gone-more p q b xs h bytes (same xs l);
       viable = λ b xs h l bytes v. let g = gone-more p q b xs h bytes (same xs l) in
           viable-alive (run start (b ++ xs)) (b ++ xs) (after (b ++ xs) (g .each)) (subst (λ (s : State). Alive (s .place)) (sym is ∙ g .is) (alive-settled (state p) (n - over)));
     }
@@ -96,8 +98,8 @@ pub record Reading (bytes : List ℕ) (p : Progress) (at : ℕ) : Type 0 where
   pub gone : Gone p (take at bytes)
   pub viable : Viable deepest longest (take at bytes)
 
-pub reading-start : (b : List ℕ) (p : Progress) → state p ≡ start → Reading b p 0
-reading-start b p e = record { within = omega arith; gone = gone-none p e; viable = viable-none deepest longest }
+pub reading-start : (b : List ℕ) (p : Progress) → Gone p [] → Reading b p 0
+reading-start b p h = record { within = omega arith; gone = h; viable = viable-none deepest longest }
 
 alive-says : (b : List ℕ) (st : Status) → Says b st → (st ≡ Dead → ⊥) → Viable deepest longest b
 alive-says b Ends h n = viable-end b h
@@ -108,7 +110,7 @@ take-further : (b : List ℕ) (at k : ℕ) → take (at + k) b ≡ take at b ++ 
 take-further b at k = sym (take-append-drop at (take (at + k) b)) ∙ ap (λ l. l ++ drop at (take (at + k) b)) (take-take at (at + k) b (omega arith)) ∙ ap (λ l. take at b ++ l) (drop-take at k b)
 
 module _ (b : List ℕ) (p q : Progress) (at : ℕ) (h : Reading b p at) (some : at < length b) (st : Status)
-    (goes : state q ≡ stepped (state p) (getD b at 0)) (says : (c : List ℕ) → Gone p c → Says (c ++ (getD b at 0 ∷ [])) st) where
+    (goes : (c : List ℕ) → Gone p c → Gone q (c ++ (getD b at 0 ∷ []))) (says : (c : List ℕ) → Gone p c → Says (c ++ (getD b at 0 ∷ [])) st) where
   says-here : Says (take (at + 1) b) st
   says-here = subst (λ l. Says l st) (sym (take-more b at 0 some)) (says (take at b) (h .gone))
 
@@ -116,20 +118,20 @@ module _ (b : List ℕ) (p q : Progress) (at : ℕ) (h : Reading b p at) (some :
   pub reading-dead : st ≡ Dead → Placed b (Some at)
   reading-dead dead = record { within = h .within; before = h .viable; here = λ l. subst (Says (take (at + 1) b)) dead says-here; end = λ e. absurd (omega arith) }
 
-  gone-here : getD b at 0 < 256 → Gone q (take (at + 1) b)
-  gone-here byte = subst (Gone q) (sym (take-more b at 0 some)) (gone-step p q (take at b) (getD b at 0) (h .gone) byte goes)
+  gone-here : Gone q (take (at + 1) b)
+  gone-here = subst (Gone q) (sym (take-more b at 0 some)) (goes (take at b) (h .gone))
 
   -- one byte further, and then over contents
-  pub reading-on : all-bytes b ≡ true → getD b at 0 < 256 → (st ≡ Dead → ⊥) → (n : Progress) (over : ℕ) → Skipped q (length b - (at + 1)) over n → Reading b n (at + 1 + over)
-  reading-on bytes byte alive n over s =
+  pub reading-on : all-bytes b ≡ true → (st ≡ Dead → ⊥) → (n : Progress) (over : ℕ) → Skipped q (length b - (at + 1)) over n → Reading b n (at + 1 + over)
+  reading-on bytes alive n over s =
       let xs = take over (drop (at + 1) b) in
       let size : length xs ≡ over = omega (arith, length-take over (drop (at + 1) b), length-drop (at + 1) b, s .far) in
       let each : all-bytes xs ≡ true = all-bytes-take over (drop (at + 1) b) (all-bytes-drop (at + 1) b bytes) in
       let e = sym (take-further b (at + 1) over) in
       record {
         within = omega (arith, s .far);
-        gone = subst (Gone n) e (gone-more q n (take (at + 1) b) xs (gone-here byte) each (s .same xs size));
-        viable = subst (Viable deepest longest) e (s .viable (take (at + 1) b) xs (gone-here byte) size each (alive-says (take (at + 1) b) st says-here alive));
+        gone = subst (Gone n) e (s .gone (take (at + 1) b) xs gone-here size each);
+        viable = subst (Viable deepest longest) e (s .viable (take (at + 1) b) xs gone-here size each (alive-says (take (at + 1) b) st says-here alive));
       }
 
 -- at the end of the bytes

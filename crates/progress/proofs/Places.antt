@@ -1,22 +1,21 @@
 -- What completes the rows from a place on, and that one more byte leads where the definition says. Assumes nothing.
-use mathlib.Core.Path.{_≡_, refl, sym, ap, subst, _∙_}
-use mathlib.Core.Bool.{Bool, true, false, cond, _&&_, _||_}
+use mathlib.Core.Path.{_≡_, refl, sym, ap, subst}
+use mathlib.Core.Bool.{true, false, cond, _&&_, _||_}
 use mathlib.Core.List.{List, [], _∷_, _++_}
 use mathlib.Core.Logic.{_⊎_, inl, inr, ⊎-elim}
 use Prim.Native.Nat.{ℕ, zero, suc, _+_, _-_, _*_, _≤_, _<_}
 use native.Mathlib.Omega.{arith}
 use lib.Dec.{ltb, leb, eqb}
 use lib.ListN.{length, length-append}
-use Rattle.std.proofs.shelf.Tests.{ltb-true, ltb-false, leb-true, eqb-true, eqb-false, lt-ltb, and-from, and-parts, and-cases, or-cases, or-parts, cases-eq, cond-both, leb-false}
+use Rattle.std.proofs.shelf.Tests.{ltb-true, ltb-false, leb-true, eqb-true, eqb-false, lt-ltb, and-from, and-parts, and-cases, or-cases, or-parts, cond-both, leb-false}
 use Rattle.format.specs.Elements.{written-length, all-bytes}
 use Rattle.format.proofs.Lengths.{short, middle, starts-long}
-use Rattle.format.proofs.Rests.{taken, Fills, room, Inside}
-use Rattle.format.proofs.Fillings.{filling, filling-inside}
-use Rattle.progress.specs.Progressed.{longest}
+use Rattle.format.proofs.Rests.{Fills, room, Inside}
+use Rattle.progress.specs.Limits.{longest}
 use Rattle.progress.specs.Machine.{after-tag, after-first, after-high, next-place}
 use Rattle.progress.specs.declared.place.Place.{Place}
 use Rattle.progress.specs.declared.place.Place.the-variants.{Tag, Length, OneByte, TwoBytes, LowByte, Header, Contents, Nowhere}
-use Rattle.progress.proofs.Standing.{Standing, fillable, Asks, asks, completed}
+use Rattle.progress.proofs.Standing.{Standing, Asks, asks}
 
 -- the bytes complete the rows: a header that has begun counts as still to come
 abbrev pub Completes : Place → (d : ℕ) → (rows c : List ℕ) → Type 0

@@ -1,16 +1,16 @@
 -- Where a reader rests, some bytes complete the rows, and no bytes do so only before a tag of the outermost row. Assumes nothing.
-use mathlib.Core.Path.{_≡_, refl, sym, ap, subst, _∙_}
+use mathlib.Core.Path.{_≡_, refl, sym, ap, subst}
 use mathlib.Core.List.{List, [], _∷_, _++_}
-use mathlib.Core.Logic.{_⊎_, inl, inr, ⊎-elim}
-use Prim.Native.Nat.{ℕ, zero, suc, _+_, _-_, _*_, _≤_, _<_}
+use mathlib.Core.Logic.{inl, inr, ⊎-elim}
+use Prim.Native.Nat.{ℕ, _+_, _*_, _≤_, _<_}
 use native.Mathlib.Omega.{arith}
 use lib.ListN.{length, length-append}
 use Rattle.std.proofs.shelf.Tests.{cases-eq}
 use Rattle.format.specs.Elements.{written-length}
 use Rattle.format.proofs.Lengths.{starts-long}
-use Rattle.format.proofs.Rests.{taken, Fills, room}
+use Rattle.format.proofs.Rests.{Fills, room}
 use Rattle.format.proofs.Fillings.{Kind, filling, filling-inside}
-use Rattle.progress.specs.Progressed.{longest}
+use Rattle.progress.specs.Limits.{longest}
 use Rattle.progress.specs.declared.place.Place.{Place}
 use Rattle.progress.specs.declared.place.Place.the-variants.{Tag, Length, OneByte, TwoBytes, LowByte, Header, Contents, Nowhere}
 use Rattle.progress.proofs.Standing.{Standing, fillable, asks, completed}

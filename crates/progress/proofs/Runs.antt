@@ -1,21 +1,22 @@
 -- A reader that has gone over bytes: what completes its rows is what makes the bytes read as a row. Assumes nothing.
-use mathlib.Core.Path.{_≡_, refl, sym, ap, subst, _∙_}
-use mathlib.Core.Bool.{true, false, cond}
+use mathlib.Core.Path.{_≡_, refl, sym, ap, subst}
+use mathlib.Core.Bool.{true}
 use mathlib.Core.List.{List, [], _∷_, _++_, append-assoc, append-nil}
 use mathlib.Core.Logic.{_⊎_, inl, inr}
-use Prim.Native.Nat.{ℕ, zero, suc, _+_, _≤_, _<_}
+use Prim.Native.Nat.{ℕ, _+_, _<_}
 use native.Mathlib.Omega.{arith}
 use lib.Dec.{eqb}
-use lib.ListN.{length, getD, drop}
+use lib.ListN.{getD, drop}
 use Rattle.std.proofs.shelf.Tests.{eqb-true, eqb-false, cond-both}
-use Rattle.format.specs.Elements.{Row, all-bytes, Reads, Readable}
+use Rattle.format.specs.Elements.{all-bytes, Readable}
 use Rattle.format.specs.Viable.{Viable, One-place}
 use Rattle.format.proofs.Bytes.{all-bytes-parts}
 use Rattle.format.proofs.Fillings.{outermost, to-outermost, needs-some}
 use Rattle.format.proofs.Readings.{readable-none}
 use Rattle.format.proofs.Rests.{Fills, room}
 use Rattle.format.proofs.Viability.{one-place}
-use Rattle.progress.specs.Progressed.{deepest, longest, Says, status-at}
+use Rattle.progress.specs.Limits.{deepest, longest}
+use Rattle.progress.specs.Progressed.{Says, status-at}
 use Rattle.progress.specs.Machine.{State, start, at-place, stepped, run}
 use Rattle.progress.specs.declared.place.Place.{Place}
 use Rattle.progress.specs.declared.place.Place.the-variants.{Tag, Length, OneByte, TwoBytes, LowByte, Header, Contents, Nowhere}

@@ -1,16 +1,16 @@
 -- Open rows whose outermost has room for any element: what a header that has begun asks of the innermost. Assumes nothing.
-use mathlib.Core.Path.{_≡_, refl, sym, ap, subst, _∙_}
+use mathlib.Core.Path.{_≡_, sym, subst}
 use mathlib.Core.List.{List, [], _∷_, _++_, append-nil}
-use mathlib.Core.Logic.{_⊎_, inl, inr, ⊎-elim}
-use Prim.Native.Nat.{ℕ, zero, suc, _+_, _-_, _≤_, _<_}
+use mathlib.Core.Logic.{⊎-elim}
+use Prim.Native.Nat.{ℕ, suc, _+_, _≤_, _<_}
 use native.Mathlib.Omega.{arith}
 use lib.ListN.{length, drop}
 use Rattle.std.proofs.shelf.Tests.{cases-eq, eq-eqb, ne-eqb}
 use Rattle.format.specs.Elements.{written-length}
 use Rattle.format.proofs.Lengths.{Says, says}
 use Rattle.format.proofs.Rests.{taken, Fills, room, deduct}
-use Rattle.format.proofs.Fillings.{Enough, Kind, Heading, heading, closed, reopened, Fillable, filling-headed}
-use Rattle.progress.specs.Progressed.{longest}
+use Rattle.format.proofs.Fillings.{Enough, Kind, heading, closed, reopened, Fillable, filling-headed}
+use Rattle.progress.specs.Limits.{longest}
 use Rattle.progress.specs.Machine.{full}
 
 -- the outermost row has no end, and none of the others needs one byte

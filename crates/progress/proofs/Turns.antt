@@ -1,6 +1,6 @@
 -- A byte further: what completes the rows then is what completed them behind that byte. Assumes nothing.
 use mathlib.Core.Path.{_≡_, refl, sym, ap, subst, subst₂, _∙_}
-use mathlib.Core.Bool.{Bool, true, false, cond, _&&_, _||_}
+use mathlib.Core.Bool.{cond, _||_}
 use mathlib.Core.List.{List, [], _∷_, _++_}
 use mathlib.Core.Logic.{_⊎_, inl, inr, ⊎-elim}
 use Prim.Native.Nat.{ℕ, zero, suc, _+_, _-_, _≤_, _<_}
@@ -12,7 +12,7 @@ use Rattle.std.proofs.shelf.Tests.{ltb-true, ltb-false, eqb-true, eqb-false, or
 use Rattle.format.specs.Elements.{written-length, all-bytes}
 use Rattle.format.proofs.Lengths.{same-length}
 use Rattle.format.proofs.Rests.{taken, Fills, room, deduct, Inside, primitive-comes, primitive-came, constructed-comes, constructed-came}
-use Rattle.progress.specs.Progressed.{longest}
+use Rattle.progress.specs.Limits.{longest}
 use Rattle.progress.specs.Machine.{State, at-place, room-of, spent, within, opened, entered, full, unfilled, settled, next-place, stepped}
 use Rattle.progress.specs.declared.place.Place.{Place}
 use Rattle.progress.specs.declared.place.Place.the-variants.{Tag, Length, OneByte, TwoBytes, LowByte, Header, Contents, Nowhere}

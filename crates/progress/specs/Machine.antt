@@ -1,10 +1,10 @@
 -- How a reader goes from byte to byte. Assumes nothing: these are definitions.
-use mathlib.Core.Path.{_≡_}
-use mathlib.Core.Bool.{Bool, true, false, cond, _&&_, _||_}
+use mathlib.Core.Bool.{cond, _&&_, _||_}
 use mathlib.Core.List.{List, [], _∷_}
-use Prim.Native.Nat.{ℕ, zero, suc, _+_, _-_, _*_}
+use Prim.Native.Nat.{ℕ, suc, _+_, _-_, _*_}
 use lib.Dec.{ltb, leb, eqb}
-use lib.ListN.{length, getD, set, drop, replicate}
+use lib.ListN.{getD, set, drop, replicate}
+use Rattle.progress.specs.Limits.{deepest, endless}
 use Rattle.progress.specs.declared.place.Place.{Place}
 use Rattle.progress.specs.declared.place.Place.the-variants.{Tag, Length, OneByte, TwoBytes, LowByte, Header, Contents, Nowhere}
 
@@ -41,7 +41,7 @@ pub record State : Type 0 where
 
 -- before the first byte
 abbrev pub start : State
-start = record { place = Tag; levels = 8; rooms = replicate 9 131072 }
+start = record { place = Tag; levels = deepest; rooms = replicate (deepest + 1) endless }
 
 abbrev pub at-place : State → Place → State
 at-place s p = record { place = p; levels = s .levels; rooms = s .rooms }
@@ -52,7 +52,7 @@ room-of s = getD (s .rooms) (s .levels) 0
 
 -- so many bytes of the innermost row are given to an element; the outermost has no end
 abbrev pub spent : State → ℕ → State
-spent s k = cond (ltb (s .levels) 8) (record { place = s .place; levels = s .levels; rooms = set (s .rooms) (s .levels) (room-of s - k) }) s
+spent s k = cond (ltb (s .levels) deepest) (record { place = s .place; levels = s .levels; rooms = set (s .rooms) (s .levels) (room-of s - k) }) s
 
 -- a row is opened within the innermost
 abbrev pub within : State → ℕ → State

@@ -9,20 +9,13 @@ use Rattle.std.specs.declared.option.Option.{Option}
 use Rattle.std.specs.declared.option.Option.the-variants.{Some, None}
 use Rattle.format.specs.Elements.{all-bytes, Readable}
 use Rattle.format.specs.Viable.{Viable, Ill-at}
+use Rattle.progress.specs.Limits.{deepest, longest}
 use Rattle.progress.specs.Machine.{State, start, run}
 use Rattle.progress.specs.declared.place.Place.{Place}
 use Rattle.progress.specs.declared.place.Place.the-variants.{Tag, Length, OneByte, TwoBytes, LowByte, Header, Contents, Nowhere}
 use Rattle.progress.specs.declared.state.Progress.{Progress}
 use Rattle.progress.specs.declared.state.Status.{Status}
 use Rattle.progress.specs.declared.state.Status.the-variants.{Ends, Within, Dead}
-
--- constructed elements stand within one another at most so deep
-abbrev pub deepest : ℕ
-deepest = 8
-
--- contents have at most so many bytes
-abbrev pub longest : ℕ
-longest = 65535
 
 abbrev pub state : Progress → State
 state p = record { place = p .place; levels = p .levels; rooms = p .rooms }
@@ -64,6 +57,7 @@ contents-left Nowhere = 0
 pub record Skipped (p : Progress) (most over : ℕ) (q : Progress) : Type 0 where
   pub far : over ≡ min most (contents-left (p .place))
   pub same : (bytes : List ℕ) → length bytes ≡ over → state q ≡ run (state p) bytes
+  pub gone : (before bytes : List ℕ) → Gone p before → length bytes ≡ over → all-bytes bytes ≡ true → Gone q (before ++ bytes)
   pub viable : (before bytes : List ℕ) → Gone p before → length bytes ≡ over → all-bytes bytes ≡ true → Viable deepest longest before → Viable deepest longest (before ++ bytes)
 
 -- none exactly if the bytes read as a row, else the place where they are malformed

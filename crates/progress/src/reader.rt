@@ -5,9 +5,11 @@ ghost use Prim.Native.Nat.{ℕ, _≤_, _+_};
 ghost use lib.ListN.{length, drop};
 ghost use Rattle.format.specs.Viable.{One-place};
 ghost use Rattle.progress.specs.Machine.{State, start, at-place, entered, spent, settled, stepped, full};
-ghost use Rattle.progress.specs.Progressed.{deepest, longest, state, Gone, Says, status-at, Skipped, Placed};
+ghost use Rattle.progress.specs.Limits.{deepest, longest};
+ghost use Rattle.progress.specs.Progressed.{state, Gone, Says, status-at, Skipped, Placed};
 use crate::place::Place;
 use crate::state::Progress;
+use crate::state::ROWS;
 use crate::state::Status;
 
 impl Progress {
@@ -18,18 +20,20 @@ impl Progress {
 
     // A reader before the first byte.
     pub fn new() -> Progress
-        ensures { λ r. ⌜ state r ≡ start ⌝ }
+        ensures is { λ r. ⌜ state r ≡ start ⌝ }
+        ensures gone { λ r. ⌜ Gone r [] ⌝ }
     {
         Progress {
             place: Place::Tag,
             levels: Progress::MAX_DEPTH,
-            rooms: [Progress::ENDLESS; 9],
+            rooms: [Progress::ENDLESS; ROWS],
         }
     }
 
     // Goes over a byte.
     pub fn step(&mut self, byte: u8) -> Status
         ensures goes { λ _. ⌜ state (now (self .exit)) ≡ stepped (state (now (self .entry))) byte ⌝ }
+        ensures gone { λ _. ⌜ ((b : List ℕ) → Gone (now (self .entry)) b → Gone (now (self .exit)) (b ++ (byte ∷ []))) ⌝ }
         ensures says { λ r. ⌜ ((b : List ℕ) → Gone (now (self .entry)) b → Says (b ++ (byte ∷ [])) r) ⌝ }
     {
         let room = self.rooms[self.levels];
@@ -94,7 +98,7 @@ impl Progress {
 
     // The levels that may open in the innermost row that still needs bytes.
     fn innermost(&self) -> usize
-        ensures bounded { λ r. ⌜ r ≤ 8 ⌝ }
+        ensures bounded { λ r. ⌜ r ≤ deepest ⌝ }
         ensures is { λ r. ⌜ r ≡ now (self .entry) .levels + full (drop (now (self .entry) .levels) (now (self .entry) .rooms)) ⌝ }
     {
         let mut levels = self.levels;

@@ -1,6 +1,7 @@
 use native.Mathlib.Omega.{arith}
+use Rattle.format.proofs.Bytes.{all-bytes-from}
 use Rattle.element.proofs.Openings.{shut-short}
-use Rattle.element.proofs.Steps.{all-bytes-from, decides-start, decides-short, decides-primitive, decides-constructed, decides-last, decides-malformed, decides-too-deep, decides-shut, decides-end}
+use Rattle.element.proofs.Steps.{decides-start, decides-short, decides-primitive, decides-constructed, decides-last, decides-malformed, decides-too-deep, decides-shut, decides-end}
 use Rattle.element.proofs.judging.Reader.+contents+row.Needs as need
 
 pub contents-returns-then-rest-eq0 : need.contents-returns-then-rest-eq0
