@@ -1,8 +1,8 @@
 -- The fields of a permit, one behind the other, and what is ahead behind some of them. Assumes nothing.
-use mathlib.Core.Path.{_≡_, refl, sym, ap, subst, _∙_}
+use mathlib.Core.Path.{_≡_, refl, sym, ap, _∙_}
 use mathlib.Core.Bool.{Bool, true, false, cond}
 use mathlib.Core.List.{List, [], _∷_, _++_}
-use Prim.Native.Nat.{ℕ, zero, suc, _+_, _^_, _≤_, _<_}
+use Prim.Native.Nat.{ℕ, zero, suc, _^_, _≤_, _<_}
 use native.Mathlib.Omega.{arith}
 use lib.ListN.{length, getD, drop, length-append}
 use Rattle.std.specs.declared.option.Option.{Option}
@@ -14,11 +14,11 @@ use Rattle.format.proofs.Fronts.{same-front}
 use Rattle.trust.specs.Chains.{Certificate}
 use Rattle.element.specs.declared.walking.Cursor.{Cursor}
 use Rattle.element.specs.declared.walking.Element.{Element}
-use Rattle.element.specs.Cursors.{ahead, Passes, Next}
+use Rattle.element.specs.Cursors.{ahead, Passes}
 use Rattle.encoding.specs.Numbers.{big-endian, number-bytes, Numbered}
 use Rattle.encoding.specs.Permits.{mark-bytes, marked, fields-row, In-range}
 use Rattle.encoding.specs.Fields.{Says, Field}
-use Rattle.encoding.proofs.Digits.{few-bytes, same-number}
+use Rattle.encoding.proofs.Digits.{same-number}
 
 -- fields that say numbers, from a tag on
 abbrev pub tagged : ℕ → List ℕ → List ℕ
@@ -36,7 +36,7 @@ numbers-of c = c .subject ∷ (c .issuer ∷ (c .not-before ∷ (c .not-after �
 abbrev pub past : ℕ → Certificate → List ℕ
 past k c = tagged (suc k) (drop k (numbers-of c))
 
-bit-bytes : (b : Bool) → number-bytes (bit b) ≡ mark-bytes b
+pub bit-bytes : (b : Bool) → number-bytes (bit b) ≡ mark-bytes b
 unfolding number-bytes big-endian
 bit-bytes true = refl
 bit-bytes false = refl
@@ -56,7 +56,7 @@ past-more (suc (suc (suc (suc zero)))) c h = refl
 past-more (suc (suc (suc (suc (suc zero))))) c h = refl
 past-more (suc (suc (suc (suc (suc (suc k)))))) c h = absurd (omega arith)
 
-bit-below : (b : Bool) → bit b < 2 ^ 32
+pub bit-below : (b : Bool) → bit b < 2 ^ 32
 bit-below true = omega arith
 bit-below false = omega arith
 

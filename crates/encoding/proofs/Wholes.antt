@@ -1,7 +1,7 @@
 -- The one element that is a permit. Assumes nothing.
-use mathlib.Core.Path.{_≡_, refl, sym, ap, subst, _∙_}
+use mathlib.Core.Path.{_≡_, refl, sym, ap, _∙_}
 use mathlib.Core.List.{List, [], _∷_, _++_}
-use Prim.Native.Nat.{ℕ, zero, suc, _+_, _*_, _^_, _≤_, _<_}
+use Prim.Native.Nat.{ℕ, suc, _*_, _^_, _≤_, _<_}
 use native.Mathlib.Omega.{arith}
 use lib.ListN.{length, getD, length-append}
 use Rattle.std.specs.declared.option.Option.{Option}
@@ -63,6 +63,6 @@ module _ (b : List ℕ) (s : Cursor) (e : Element) (after : Cursor) (start : ahe
     pub whole : (r : Option Held) → Fields inner r → Decoded b r
     whole (Some h) k =
         let none : ahead after ≡ [] = nil-from-length (ahead after) (omega arith) in
-        let same : e .contents .now ≡ written (fields-row (certificate-of h)) = sym (k ∙ within) in
-        permit-is (certificate-of h) ∙ sym (λ i. framed (tag i) (same i) ++ none i) ∙ sym (front-of s e after p) ∙ start
+        let same : e .contents .now ≡ written (fields-row (certificate-of h)) = sym (k .1 ∙ within) in
+        (k .0, permit-is (certificate-of h) ∙ sym (λ i. framed (tag i) (same i) ++ none i) ∙ sym (front-of s e after p) ∙ start)
     whole None k = λ c h l. k c h (sym (within ∙ parts c l .1))

@@ -1,5 +1,4 @@
-use mathlib.Core.Path.{sym, ap, subst, _∙_}
-use native.Mathlib.Omega.{arith}
+use mathlib.Core.Path.{_∙_}
 use Rattle.encoding.proofs.Wholes.{no-element, other-tag, one-behind, whole}
 use Rattle.encoding.proofs.reading.decode.Needs as need
 use Rattle.encoding.proofs.reading.decode.Needs.{then-permit·by·then-permit, then-permit·by·else-permit·then-row-gt0}

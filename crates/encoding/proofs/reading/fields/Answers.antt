@@ -1,4 +1,4 @@
-use mathlib.Core.Path.{sym, _∙_}
+use mathlib.Core.Path.{_∙_}
 use native.Mathlib.Omega.{arith}
 use Rattle.encoding.proofs.Tails.{fields-are, left-start, left-none, left-1, left-2, left-3, left-4, left-5, no-mark, more-behind, six-fields}
 use Rattle.encoding.proofs.reading.fields.Needs as need
@@ -28,4 +28,7 @@ pub returns-then-fields-gt0 : need.returns-then-fields-gt0
 returns-then-fields-gt0 c = more-behind (c .in-Continue-subject .ensures tt) (c .in-Continue-issuer .ensures tt) (c .in-Continue-not-before .ensures tt) (c .in-Continue-not-after .ensures tt) (c .in-Continue-number .ensures tt) (c .in-Continue-path-len .ensures tt) (c .if-fields-gt0 .taken)
 
 pub returns : need.returns
-returns c = fields-are _ ∙ six-fields (c .in-Continue-subject .ensures tt) (c .in-Continue-issuer .ensures tt) (c .in-Continue-not-before .ensures tt) (c .in-Continue-not-after .ensures tt) (c .in-Continue-number .ensures tt) (c .in-Continue-path-len .ensures tt) (c .if-fields-gt0 .left) (c .in-Continue-may-issue .may-issue) (c .in-Continue-may-issue .ensures tt)
+returns c = (
+  record { subject = c .in-Continue-subject .ensures tt .range; issuer = c .in-Continue-issuer .ensures tt .range; not-before = c .in-Continue-not-before .ensures tt .range; not-after = c .in-Continue-not-after .ensures tt .range; path-len = c .in-Continue-path-len .ensures tt .range },
+  fields-are _ ∙ six-fields (c .in-Continue-subject .ensures tt) (c .in-Continue-issuer .ensures tt) (c .in-Continue-not-before .ensures tt) (c .in-Continue-not-after .ensures tt) (c .in-Continue-number .ensures tt) (c .in-Continue-path-len .ensures tt) (c .if-fields-gt0 .left) (c .in-Continue-may-issue .may-issue) (c .in-Continue-may-issue .ensures tt),
+)
