@@ -1,4 +1,4 @@
-use mathlib.Core.Path.{_∙_}
+use mathlib.Core.Path.{sym, _∙_}
 use native.Mathlib.Omega.{arith}
 use Rattle.encoding.proofs.Tails.{fields-are, left-start, left-none, left-1, left-2, left-3, left-4, left-5, no-mark, more-behind, six-fields}
 use Rattle.encoding.proofs.reading.fields.Needs as need
@@ -24,11 +24,11 @@ returns-in-Break-may-issue c = rw (c .from-residual-in-Break-may-issue .ensures)
 pub returns-in-Break-path-len : need.returns-in-Break-path-len
 returns-in-Break-path-len c = rw (c .from-residual-in-Break-path-len .ensures) (left-none 5 (omega arith) (left-5 (c .in-Continue-subject .ensures tt) (c .in-Continue-issuer .ensures tt) (c .in-Continue-not-before .ensures tt) (c .in-Continue-not-after .ensures tt) (c .in-Continue-number .ensures tt)) (c .in-Break-path-len .ensures tt))
 
-pub returns-then-fields-gt0 : need.returns-then-fields-gt0
-returns-then-fields-gt0 c = more-behind (c .in-Continue-subject .ensures tt) (c .in-Continue-issuer .ensures tt) (c .in-Continue-not-before .ensures tt) (c .in-Continue-not-after .ensures tt) (c .in-Continue-number .ensures tt) (c .in-Continue-path-len .ensures tt) (c .if-fields-gt0 .taken)
+pub returns-then-not-at-end : need.returns-then-not-at-end
+returns-then-not-at-end c = more-behind (c .in-Continue-subject .ensures tt) (c .in-Continue-issuer .ensures tt) (c .in-Continue-not-before .ensures tt) (c .in-Continue-not-after .ensures tt) (c .in-Continue-number .ensures tt) (c .in-Continue-path-len .ensures tt) (sym (c .at-end .ensures) ∙ c .if-not-at-end .taken)
 
 pub returns : need.returns
 returns c = (
   record { subject = c .in-Continue-subject .ensures tt .range; issuer = c .in-Continue-issuer .ensures tt .range; not-before = c .in-Continue-not-before .ensures tt .range; not-after = c .in-Continue-not-after .ensures tt .range; path-len = c .in-Continue-path-len .ensures tt .range },
-  fields-are _ ∙ six-fields (c .in-Continue-subject .ensures tt) (c .in-Continue-issuer .ensures tt) (c .in-Continue-not-before .ensures tt) (c .in-Continue-not-after .ensures tt) (c .in-Continue-number .ensures tt) (c .in-Continue-path-len .ensures tt) (c .if-fields-gt0 .left) (c .in-Continue-may-issue .may-issue) (c .in-Continue-may-issue .ensures tt),
+  fields-are _ ∙ six-fields (c .in-Continue-subject .ensures tt) (c .in-Continue-issuer .ensures tt) (c .in-Continue-not-before .ensures tt) (c .in-Continue-not-after .ensures tt) (c .in-Continue-number .ensures tt) (c .in-Continue-path-len .ensures tt) (sym (c .at-end .ensures) ∙ c .if-not-at-end .left) (c .in-Continue-may-issue .may-issue) (c .in-Continue-may-issue .ensures tt),
 )
