@@ -53,7 +53,7 @@ all-more : (x : ℕ) (b : List ℕ) → x < 256 → all-bytes b ≡ true → all
 unfolding all-bytes
 all-more x b h e = and-from (ltb x 256) (all-bytes b) (lt-ltb x 256 h) e
 
-pub all-one : (x : ℕ) → x < 256 → all-bytes (x ∷ []) ≡ true
+all-one : (x : ℕ) → x < 256 → all-bytes (x ∷ []) ≡ true
 unfolding all-bytes
 all-one x h = all-more x [] h refl
 

@@ -19,7 +19,7 @@ mark-bytes b = cond b 1 0 ∷ []
 abbrev pub marked : ℕ → Option Bool
 marked n = cond (eqb n 0) (Some false) (cond (eqb n 1) (Some true) None)
 
--- six fields with the tags 1 to 6, within one element with the tag 128
+-- six fields with the tags 1 to 6, in that order
 unfoldable pub fields-row : Certificate → Row
 fields-row c =
     primitive 1 (number-bytes (c .subject))
@@ -29,13 +29,15 @@ fields-row c =
     (primitive 5 (mark-bytes (c .may-issue))
     (primitive 6 (number-bytes (c .path-len)) empty)))))
 
+-- one element with the tag 128, in which the fields stand
 unfoldable pub permit-row : Certificate → Row
 permit-row c = constructed 128 (fields-row c) empty
 
+-- the bytes of a certificate
 abbrev pub permit-bytes : Certificate → List ℕ
 permit-bytes c = written (permit-row c)
 
--- the numbers of a certificate that has bytes
+-- each number of the certificate can be written in four bytes
 pub record In-range (c : Certificate) : Type 0 where
   pub subject : c .subject < 2 ^ 32
   pub issuer : c .issuer < 2 ^ 32

@@ -22,17 +22,17 @@ pub struct Certificate {
 impl Certificate {
     // The tag of the element that is a permit.
     pub const PERMIT: u8 = 128;
-    // The tags of the fields within it.
+    // The tag of the field that says the subject.
     pub const SUBJECT: u8 = 1;
-
+    // The tag of the field that says the issuer.
     pub const ISSUER: u8 = 2;
-
+    // The tag of the field that says the first day.
     pub const NOT_BEFORE: u8 = 3;
-
+    // The tag of the field that says the last day.
     pub const NOT_AFTER: u8 = 4;
-
+    // The tag of the field that says whether the subject may issue.
     pub const MAY_ISSUE: u8 = 5;
-
+    // The tag of the field that says the path length.
     pub const PATH_LEN: u8 = 6;
 }
 

@@ -14,12 +14,11 @@ impl Number {
     pub const MAX_BYTES: usize = 4;
     // How many values a byte has.
     const BYTE: u32 = 256;
-
-    // Numbers below these have one, two and three bytes.
+    // Numbers below this have one byte.
     const ONE_BYTE_END: u32 = 256;
-
+    // Numbers below this have two bytes at most.
     const TWO_BYTES_END: u32 = 65_536;
-
+    // Numbers below this have three bytes at most.
     const THREE_BYTES_END: u32 = 16_777_216;
 
     // The number that the bytes are, if they are one's.
