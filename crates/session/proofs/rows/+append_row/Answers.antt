@@ -1,0 +1,46 @@
+use mathlib.Core.Path.{refl, ap, subst, sym}
+use native.Mathlib.Omega.{arith}
+use lib.ListN.{length, length-append}
+use Rattle.format.specs.Elements.{Reads}
+use Rattle.element.specs.Cursors.{ahead}
+use Rattle.element.specs.Judged.{longest}
+use Rattle.session.proofs.Showing.{begins-more, not-ok, printed-all, printed-plain, printed-nested, shorter}
+use Rattle.session.proofs.rows.+append_row.Needs as need
+
+pub returns-in-Break-append-element : need.returns-in-Break-append-element
+returns-in-Break-append-element t c = record {
+  front = begins-more _ _ _ (c .loop-element .inv .2 .front) (c .in-Break-append-element .ensures tt);
+  shown = λ ok. absurd (not-ok _ (c .from-residual .ensures .0) ok);
+}
+
+pub append-row-requires : need.append-row-requires
+append-row-requires t c κs =
+    let i = c .loop-element .inv .2 in
+    let s = c .in-Some .ensures tt .steps in
+    let l = shorter _ _ _ _ _ _ _ i s in
+    let start = ap (λ u. length (ahead u)) (c .into-iter-element-iterator .ensures .becomes) in
+    let inner = ap length (c .inside .ensures .rest) in
+    (omega arith, (omega (arith, c .loop-element .inv .0, s .within, s .place, ap length (s .front), length-append (c .in-Some .element .whole .now) (ahead (c .next .last .self)), c .inside .ensures .place), omega arith))
+
+pub loop-element-again-in-Continue·-branch-2 : need.loop-element-again-in-Continue·-branch-2
+loop-element-again-in-Continue·-branch-2 t c =
+    let i = c .loop-element .inv .2 in
+    let s = c .in-Some .ensures tt .steps in
+    let inner = c .in-Continue-append-row .ensures tt in
+    (c .in-Some .ensures tt .goes .on tt .0, tt, printed-nested _ _ _ _ _ _ _ i s _ _ (c .if-constructed .taken) (c .in-Continue-append-element .ensures tt) (inner .front) (λ d row h. inner .shown refl d row (subst (λ b. Reads d longest b row) (sym (c .inside .ensures .rest)) h)))
+
+pub returns-in-Break-append-row : need.returns-in-Break-append-row
+returns-in-Break-append-row t c = record {
+  front = begins-more _ _ _ (c .loop-element .inv .2 .front) (begins-more _ _ _ (_, c .in-Continue-append-element .ensures tt) (c .in-Break-append-row .ensures tt .front));
+  shown = λ ok. absurd (not-ok _ (c .from-residual-in-Break-append-row .ensures .0) ok);
+}
+
+pub loop-element-again : need.loop-element-again
+loop-element-again t c =
+    (c .in-Some .ensures tt .goes .on tt .0, tt, printed-plain _ _ _ _ _ _ _ (c .loop-element .inv .2) (c .in-Some .ensures tt .steps) _ (c .if-constructed .left) (c .in-Continue-append-element .ensures tt))
+
+pub returns : need.returns
+returns t c = record {
+  front = c .loop-element .inv .2 .front;
+  shown = λ ok d row h. printed-all _ _ _ _ _ _ (c .loop-element .inv .2) (c .in-None .ensures tt .steps) d row (subst (λ u. Reads d longest (ahead u) row) (sym (c .into-iter-element-iterator .ensures .becomes)) h);
+}
