@@ -9,10 +9,13 @@ use Rattle.format.specs.Elements.{Row, empty, primitive, constructed, written,
 use Rattle.format.specs.Paths.{at-path, place}
 
 -- one reading: of all bytes it is decided whether they read as a row, and what they read as is one row only
-abbrev pub One-reading : Type 0
-One-reading =
-    (depth longest : ℕ) (bytes : List ℕ)
+abbrev pub One-reading-at : (depth longest : ℕ) → Type 0
+One-reading-at depth longest =
+    (bytes : List ℕ)
     → ((row : Row) × Reads depth longest bytes row × ((other : Row) → Reads depth longest bytes other → other ≡ row)) ⊎ ((row : Row) → Reads depth longest bytes row → ⊥)
+
+abbrev pub One-reading : Type 0
+One-reading = (depth longest : ℕ) → One-reading-at depth longest
 
 -- a row of one element
 abbrev pub single : Row → Bool

@@ -1,3 +1,4 @@
 pub mod Laying
 pub mod Ends
 pub mod Follows
+pub mod Growth

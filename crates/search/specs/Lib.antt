@@ -1,3 +1,5 @@
 pub mod Answers
 pub mod Kept
 pub mod LaidOut
+pub mod Places
+pub mod Promise

@@ -2,7 +2,6 @@
 ghost use mathlib.Core.Path.{_≡_};
 ghost use lib.ListN.{length};
 ghost use Rattle.std.specs.Options.{Cases};
-ghost use Rattle.trust.specs.Chains.{Pool};
 ghost use Rattle.certificate.specs.Rejections.{number};
 ghost use Rattle.certificate.specs.Views.{view-pool};
 ghost use Rattle.search.specs.Answers.{Answers, Written, rejected-by};
@@ -15,10 +14,16 @@ use certificate::RejectionPartialEq;
 use certificate::pool_rejection;
 
 mod layout;
+mod place;
+mod promise;
 mod query;
 mod reached;
 
 use layout::lay_out;
+pub use place::rejection_place;
+pub use promise::answer_passes_stands;
+pub use promise::more_answers_stands;
+pub use promise::promise_stands;
 use query::Query;
 use reached::Reached;
 

@@ -1,6 +1,5 @@
 // What a search is asked.
 ghost use Prim.Native.Nat.{_<_};
-ghost use Rattle.trust.specs.Chains.{Pool};
 ghost use Rattle.certificate.specs.Views.{view-pool};
 use certificate::PoolView;
 

@@ -3,7 +3,7 @@ use certificate::MOST;
 
 mod climbing;
 
-// For each certificate the layer in which it was reached, from 1, or 0 for none, and the one below it.
+// For each certificate one more than the layer in which it was reached, or 0, and the one below it.
 #[derive(Drop)]
 pub struct Reached {
     pub far: [u8; MOST],

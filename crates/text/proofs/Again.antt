@@ -1,24 +1,23 @@
 -- What is written is read again as it was. Assumes nothing.
-use mathlib.Core.Path.{_≡_, refl, sym, ap, ap₂, _∙_}
+use mathlib.Core.Path.{_≡_, refl, ap, ap₂, _∙_}
 use mathlib.Core.Bool.{true, false, cond, _&&_}
 use mathlib.Core.List.{List, [], _∷_, _++_}
 use mathlib.Core.Logic.{⊎-elim}
 use Prim.Native.Nat.{ℕ, _+_, _-_, _*_, _/_, _%_, _^_, _≤_, _<_}
 use native.Mathlib.Omega.{arith}
-use lib.Dec.{leb, ltb, eqb}
-use lib.ListN.{length}
+use lib.Dec.{leb}
 use Rattle.std.specs.Joined.{joined}
 use Rattle.std.specs.Text.{digitChar}
 use Rattle.std.specs.Written.{decimal}
 use Rattle.std.specs.declared.option.Option.{Option}
 use Rattle.std.specs.declared.option.Option.the-variants.{Some, None}
 use Rattle.std.proofs.shelf.Decimals.{decimal-by-steps, decimal-some}
-use Rattle.std.proofs.shelf.Tests.{le-leb, lt-leb, lt-ltb, le-ltb, ne-eqb, and-from, and-left, and-right, or-from, cases-lt}
+use Rattle.std.proofs.shelf.Tests.{le-leb, lt-leb, lt-ltb, le-ltb, ne-eqb, and-from, and-right, or-from, cases-lt}
 use Rattle.text.specs.Pieces.{blank, words}
-use Rattle.text.specs.Figures.{both, digit, with-digit, decimal-after, below, number, hex-digit, hex-pair, word-bytes, bytes-of}
+use Rattle.text.specs.Figures.{both, digit, with-digit, decimal-after, below, hex-digit, word-bytes, bytes-of}
 use Rattle.text.specs.Meaning.{number-limit}
 use Rattle.text.specs.Texts.{blank-before, hex-text, spaced}
-use Rattle.text.specs.Promise.{Every, Word-ends, Bytes, Figures-stand}
+use Rattle.text.specs.Promise.{Word-ends, Bytes, Figures-stand}
 use Rattle.text.proofs.Cuts.{words-nil}
 use Rattle.text.proofs.Laws.{past-blank, word-in-front}
 use Rattle.text.proofs.Values.{below-some, number-some}

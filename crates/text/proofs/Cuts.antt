@@ -1,14 +1,13 @@
 -- The first piece of some bytes, the first word of a line, and what is left. Assumes nothing.
-use mathlib.Core.Path.{_≡_, refl, sym, ap, subst, _∙_}
+use mathlib.Core.Path.{_≡_, refl, sym, ap, _∙_}
 use mathlib.Core.Bool.{Bool, true, false, cond}
-use mathlib.Core.List.{List, [], _∷_, _++_}
+use mathlib.Core.List.{List, [], _∷_}
 use Prim.Native.Nat.{ℕ, zero, suc, _+_, _≤_, _<_}
 use native.Mathlib.Numerals.{add-one}
 use native.Mathlib.Omega.{arith}
 use lib.ListN.{length, take, drop, getD}
 use Rattle.std.proofs.shelf.Lists.{at-drop-more, at-drop-all, length-take-le, length-drop}
-use Rattle.text.specs.Pieces.{blank, line-end, lengthened, pieces, some-of, words, lines}
-use Rattle.text.specs.Runs.{run}
+use Rattle.text.specs.Pieces.{blank, line-end, lengthened, pieces, some-of, words, lines, run}
 
 module _ (ends : ℕ → Bool) where
   pub run-le : (bs : List ℕ) → run ends bs ≤ length bs

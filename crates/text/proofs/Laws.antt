@@ -2,12 +2,12 @@
 use mathlib.Core.Path.{_≡_, refl, sym, ap, subst, _∙_}
 use mathlib.Core.Bool.{Bool, true, false, cond}
 use mathlib.Core.List.{List, [], _∷_, _++_, append-nil}
-use mathlib.Core.Logic.{_⊎_, inl, inr}
+use mathlib.Core.Logic.{inl, inr}
 use Prim.Native.Nat.{ℕ, _<_}
 use native.Mathlib.Omega.{arith}
 use lib.ListN.{length}
 use Rattle.text.specs.Pieces.{blank, line-end, lengthened, pieces, some-of, words, lines}
-use Rattle.text.specs.Promise.{Every, Ended-piece, Last-piece, Pieces-of, Lines-stand, Word-ends, First-word, Words-of, Words-stand}
+use Rattle.text.specs.Promise.{Every, Pieces-of, Lines-stand, Word-ends, Words-of, Words-stand}
 
 module _ (ends : ℕ → Bool) where
   -- a byte more in front of the first piece

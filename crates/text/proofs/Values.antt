@@ -1,5 +1,5 @@
 -- Numbers and bytes, one word, digit or byte at a time. Assumes nothing.
-use mathlib.Core.Path.{_≡_, refl, sym, ap, subst, _∙_}
+use mathlib.Core.Path.{_≡_, refl, sym, ap, _∙_}
 use mathlib.Core.Bool.{Bool, true, false, cond, _&&_}
 use mathlib.Core.List.{List, [], _∷_, _++_, append-assoc, append-nil}
 use Prim.Native.Nat.{ℕ, _+_, _-_, _*_, _≤_, _<_}
@@ -10,7 +10,7 @@ use Rattle.std.specs.Options.{mapped}
 use Rattle.std.specs.declared.option.Option.{Option}
 use Rattle.std.specs.declared.option.Option.the-variants.{Some, None}
 use Rattle.std.proofs.shelf.Lists.{at-drop-more, at-drop-all}
-use Rattle.std.proofs.shelf.Tests.{le-ltb, lt-ltb, ltb-true, ltb-false, cases-bool}
+use Rattle.std.proofs.shelf.Tests.{le-ltb, lt-ltb, ltb-true, ltb-false}
 use Rattle.text.specs.Figures.{both, with-digit, decimal-after, below, number, numbers, hex-pair, word-bytes, bytes-of}
 
 module _ (limit : ℕ) where

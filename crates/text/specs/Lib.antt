@@ -1,6 +1,5 @@
 pub mod Pieces
 pub mod Figures
 pub mod Meaning
-pub mod Runs
 pub mod Texts
 pub mod Promise

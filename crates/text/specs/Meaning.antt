@@ -1,5 +1,5 @@
 -- What a line says. Assumes nothing: these are definitions.
-use mathlib.Core.Bool.{cond}
+use mathlib.Core.Bool.{Bool, cond}
 use mathlib.Core.List.{List, [], _∷_}
 use Prim.Native.Nat.{ℕ, _^_}
 use lib.Chars.{codes}
@@ -26,9 +26,13 @@ pub data Says : Type 0 where
   piece : (paper : ℕ) → (path : List ℕ) → Says
   chain : (first day : ℕ) → Says
 
--- what the first word of a line says of it; a word that begins with `#` begins a comment
+-- a word that begins with `#` begins a comment
+abbrev pub comment : List ℕ → Bool
+comment w = eqb (getD w 0 0) 35
+
+-- what the first word of a line says of it
 abbrev pub key-of : List ℕ → Key
-key-of w = cond (eqb (getD w 0 0) 35) Comment (cond (sameBytes w (codes "paper")) Paper (cond (sameBytes w (codes "seals")) Seals (cond (sameBytes w (codes "trusted")) Trusted (cond (sameBytes w (codes "piece")) Piece (cond (sameBytes w (codes "chain")) Chain Other)))))
+key-of w = cond (comment w) Comment (cond (sameBytes w (codes "paper")) Paper (cond (sameBytes w (codes "seals")) Seals (cond (sameBytes w (codes "trusted")) Trusted (cond (sameBytes w (codes "piece")) Piece (cond (sameBytes w (codes "chain")) Chain Other)))))
 
 -- a mark is below 256, any other number below 2 ^ 64
 abbrev pub mark-limit : ℕ
@@ -74,7 +78,7 @@ words-say [] = Some nothing
 words-say (w ∷ ws) = rest-says (key-of w) ws
 
 -- what a line says; none if it can't be read
-abbrev pub meaning : List ℕ → Option Says
+unfoldable pub meaning : List ℕ → Option Says
 meaning line = words-say (words line)
 
 -- what a command says

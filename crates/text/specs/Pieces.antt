@@ -2,7 +2,7 @@
 use mathlib.Core.Bool.{Bool, cond, _||_}
 use mathlib.Core.List.{List, [], _∷_}
 use mathlib.Core.Path.{_≡_}
-use Prim.Native.Nat.{ℕ, _<_}
+use Prim.Native.Nat.{ℕ, zero, suc, _<_}
 use lib.Dec.{eqb}
 use lib.ListN.{length}
 
@@ -47,3 +47,8 @@ pub record Handed (split : List ℕ → List (List ℕ)) (was piece left : List 
 pub record Ended (split : List ℕ → List (List ℕ)) (was left : List ℕ) : Type 0 where
   pub none : split was ≡ []
   pub after : split left ≡ []
+
+-- how many bytes stand before the first that passes a test, or all if none does
+unfoldable pub run : (ℕ → Bool) → List ℕ → ℕ
+run ends [] = zero
+run ends (b ∷ bs) = cond (ends b) zero (suc (run ends bs))

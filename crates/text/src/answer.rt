@@ -11,6 +11,9 @@ use std::alloc::AllocError;
 const TEN: u64 = 10;
 
 const SIXTEEN: u8 = 16;
+
+// What the digit `a` is in base sixteen.
+const DIGIT_A: u8 = 10;
 // The most digits of a number below 2 ^ 64.
 const MOST_DIGITS: usize = 20;
 
@@ -80,7 +83,11 @@ fn hex_char(d: u8) -> u8
     requires { ⌜ d < 16 ⌝ }
     ensures { λ r. ⌜ r ≡ digitChar d ⌝ }
 {
-    if d < 10 { b'0' + d } else { b'a' + (d - 10) }
+    if d < DIGIT_A {
+        b'0' + d
+    } else {
+        b'a' + (d - DIGIT_A)
+    }
 }
 
 // A text and a byte behind it, in base sixteen.

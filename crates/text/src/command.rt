@@ -1,11 +1,9 @@
 // A line read as a command.
 ghost use mathlib.Core.Path.{_≡_};
-ghost use lib.Dec.{eqb};
-ghost use lib.ListN.{getD};
 ghost use Rattle.std.specs.Options.{mapped};
 ghost use Rattle.std.specs.Vec.{made};
 ghost use Rattle.std.specs.shelf.Text.{sameBytes};
-ghost use Rattle.text.specs.Meaning.{key-of, only-number, day-of, chain-of, piece-of, meaning, says};
+ghost use Rattle.text.specs.Meaning.{comment, key-of, only-number, day-of, chain-of, piece-of, words-say, meaning, says};
 ghost use Rattle.text.specs.Pieces.{words as words-of};
 use crate::figures::parse_number;
 use crate::figures::read_bytes;
@@ -28,7 +26,7 @@ pub enum Command {
     Chain { first: u64, day: u64 },
 }
 
-// What the first word of a line says of it.
+// The kinds of lines, by their first word.
 #[derive(Clone, Copy)]
 enum Key {
     Comment,
@@ -49,12 +47,12 @@ fn same(word: &[u8], other: &[u8]) -> bool
 
 // Whether a word begins a comment.
 fn is_comment(word: &[u8]) -> bool
-    ensures { λ r. ⌜ r ≡ eqb (getD (now (word .entry)) 0 0) 35 ⌝ }
+    ensures { λ r. ⌜ r ≡ comment (now (word .entry)) ⌝ }
 {
     word.len() > 0 && word[0] == COMMENT
 }
 
-// What a line's first word says of it.
+// What the first word of a line says of it.
 fn read_key(word: &[u8]) -> Key
     ensures { λ r. ⌜ r ≡ key-of (now (word .entry)) ⌝ }
 {
@@ -124,11 +122,10 @@ fn read_piece(heap: Global, mut words: Words<'_>) -> Result<Option<Command>, All
     }
 }
 
-// The command that a line is; none if it can't be read.
-pub fn read_line(heap: Global, line: &[u8]) -> Result<Option<Command>, AllocError>
-    ensures { λ r. ⌜ made r (λ o. mapped says o ≡ meaning (now (line .entry))) ⌝ }
+// The command that the words of a line are; none if they can't be read.
+fn read_words(heap: Global, mut words: Words<'_>) -> Result<Option<Command>, AllocError>
+    ensures { λ r. ⌜ made r (λ o. mapped says o ≡ words-say (words-of (now (words .entry .rest)))) ⌝ }
 {
-    let mut words = Words::new(line);
     let Some(word) = words.next() else {
         return Ok(Some(Command::Nothing));
     };
@@ -150,4 +147,11 @@ pub fn read_line(heap: Global, line: &[u8]) -> Result<Option<Command>, AllocErro
         Key::Chain => Ok(read_chain(words)),
         Key::Other => Ok(None),
     }
+}
+
+// The command that a line is; none if it can't be read.
+pub fn read_line(heap: Global, line: &[u8]) -> Result<Option<Command>, AllocError>
+    ensures { λ r. ⌜ made r (λ o. mapped says o ≡ meaning (now (line .entry))) ⌝ }
+{
+    read_words(heap, Words::new(line))
 }

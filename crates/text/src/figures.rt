@@ -16,6 +16,10 @@ use std::alloc::Global;
 const TEN: u64 = 10;
 
 const SIXTEEN: u8 = 16;
+// What the digit `a` is in base sixteen.
+const DIGIT_A: u8 = 10;
+// How many digits of base sixteen a byte has.
+const BYTE_DIGITS: usize = 2;
 
 const MARK_MAX: u64 = 255;
 
@@ -57,8 +61,8 @@ fn hex_value(b: u8) -> Option<u8>
 {
     match b {
         b'0'..=b'9' => Some(b - b'0'),
-        b'a'..=b'f' => Some(b - b'a' + 10),
-        b'A'..=b'F' => Some(b - b'A' + 10),
+        b'a'..=b'f' => Some(b - b'a' + DIGIT_A),
+        b'A'..=b'F' => Some(b - b'A' + DIGIT_A),
         _ => None,
     }
 }
@@ -77,12 +81,12 @@ fn push_bytes(out: &mut Vec<u8>, word: &[u8]) -> Result<bool, AllocError>
     ensures { λ r. ⌜ made r (λ ok. mapped (λ bs. vec-items (now (out .entry)) ++ bs) (word-bytes (now (word .entry))) ≡ cond ok (Some (vec-items (now (out .exit)))) None) ⌝ }
 {
     let mut rest = word;
-    while rest.len() >= 2 {
+    while rest.len() >= BYTE_DIGITS {
         let Some(byte) = hex_byte(rest[0], rest[1]) else {
             return Ok(false);
         };
         out.push(byte)?;
-        rest = &rest[2..];
+        rest = &rest[BYTE_DIGITS..];
     }
     Ok(rest.len() == 0)
 }

@@ -3,8 +3,7 @@ ghost use mathlib.Core.Path.{_≡_};
 ghost use Prim.Native.Nat.{_+_, _≤_};
 ghost use lib.ListN.{length, drop};
 ghost use Rattle.std.specs.Options.{Cases as BySome};
-ghost use Rattle.text.specs.Pieces.{blank, line-end, words, lines, Handed, Ended};
-ghost use Rattle.text.specs.Runs.{run};
+ghost use Rattle.text.specs.Pieces.{blank, line-end, words, lines, Handed, Ended, run};
 
 const SPACE: u8 = b' ';
 
@@ -26,6 +25,7 @@ pub struct Lines<'a> {
     rest: &'a [u8],
 }
 
+// Whether a byte is a blank.
 fn is_blank(b: u8) -> bool
     ensures { λ r. ⌜ r ≡ blank b ⌝ }
 {

@@ -16,12 +16,12 @@ follows p day k a b = issues p b a && (leb k (p .certificate b .path-len) && hol
 abbrev pub Before : (m a b k x y : ℕ) → Type 0
 Before m a b k x y = (m < k) ⊎ ((m ≡ k) × ((a < x) ⊎ ((a ≡ x) × (b < y))))
 
--- b was reached in the layer next above that of the one below it
+-- b was reached in layer m + 1, from one in layer m that it can follow
 pub record Parent (p : Pool) (day : ℕ) (far from : List ℕ) (m b : ℕ) : Type 0 where
   pub layer : getD far (getD from b 0) 0 ≡ m + 1
   pub follow : follows p day m (getD from b 0) b ≡ true
 
--- far has the layer of each certificate, counted from 1, and 0 for one not reached; from has the one below it; all turns before that of y above x in layer k are over, and there is no trust anchor in the first layers, as many as clear
+-- far has k + 1 for a certificate reached in layer k, below which k certificates stand, and 0 for one not reached; from has the one below it; all turns before that of y above x in layer k are over, and there is no trust anchor in the first layers, as many as clear
 pub record Layers (p : Pool) (day first : ℕ) (far from : List ℕ) (clear k x y : ℕ) : Type 0 where
   pub known : first < p .count
   pub valid : holds (p .certificate first) day ≡ true
@@ -35,7 +35,7 @@ pub record Layers (p : Pool) (day first : ℕ) (far from : List ℕ) (clear k x 
   pub past : (m a b : ℕ) → a < p .count → b < p .count → getD far a 0 ≡ m + 1 → Before m a b k x y → follows p day m a b ≡ true → (0 < getD far b 0) × (getD far b 0 ≤ m + 2)
   pub cleared : (a : ℕ) → a < p .count → 0 < getD far a 0 → getD far a 0 ≤ clear → p .anchor a ≡ false
 
--- a is a trust anchor in the first layer that has one
+-- a is a trust anchor in layer k, and no layer before that has one
 pub record Top (p : Pool) (day first : ℕ) (far from : List ℕ) (k a : ℕ) : Type 0 where
   pub layers : Layers p day first far from k k 0 0
   pub known : a < p .count

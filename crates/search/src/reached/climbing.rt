@@ -4,7 +4,6 @@ ghost use mathlib.Core.Bool.{true, false};
 ghost use Prim.Native.Nat.{ℕ, _+_, _<_};
 ghost use lib.ListN.{getD, set, replicate};
 ghost use Rattle.std.specs.Options.{Cases};
-ghost use Rattle.trust.specs.Chains.{Pool};
 ghost use Rattle.certificate.specs.Sixes.{most};
 ghost use Rattle.certificate.specs.Views.{view-pool};
 ghost use Rattle.search.specs.Kept.{Kept, Anchor-in, Topped, None-up};

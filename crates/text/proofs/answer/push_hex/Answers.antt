@@ -1,4 +1,4 @@
-use mathlib.Core.Path.{sym, ap₂, subst}
+use mathlib.Core.Path.{ap₂, subst}
 use mathlib.Core.List.{_∷_, []}
 use Rattle.std.specs.Of.Vec.{vec-items}
 use Rattle.text.specs.Texts.{Appends, hex-text}
