@@ -83,8 +83,8 @@ module _ (level : ℕ) (start old was : List ℕ) (c : Cursor) (x : Element) (u 
     on = λ d row h.
         let (left, reads, same) = p .on d row h in
         elim (split-text d level (ahead c) left reads (x .tag) (x .contents .now) (ahead u) split-at) [
-        plain low′ behind r text ↦ (behind, r, same ∙ ap (λ l. was ++ l) text ∙ sym (append-assoc was (element-text level (x .tag) (x .contents .now) false) (row-text level behind)) ∙ ap (λ l. l ++ row-text level behind) (sym e))
-        | nested high less q rq behind r text ↦ absurd (omega arith)
+          | plain low′ behind r text ↦ (behind, r, same ∙ ap (λ l. was ++ l) text ∙ sym (append-assoc was (element-text level (x .tag) (x .contents .now) false) (row-text level behind)) ∙ ap (λ l. l ++ row-text level behind) (sym e))
+          | nested high less q rq behind r text ↦ absurd (omega arith)
         ];
   }
 
@@ -96,10 +96,10 @@ module _ (level : ℕ) (start old was : List ℕ) (c : Cursor) (x : Element) (u 
     on = λ d row h.
         let (left, reads, same) = p .on d row h in
         elim (split-text d level (ahead c) left reads (x .tag) (x .contents .now) (ahead u) split-at) [
-        plain low behind r text ↦ absurd (omega arith)
-        | nested high′ less q rq behind r text ↦
-            let own = element-text level (x .tag) (x .contents .now) true in
-            let within = row-text (level + 1) q in
-            (behind, r, same ∙ ap (λ l. was ++ l) text ∙ sym (append-assoc was own (within ++ row-text level behind)) ∙ ap (λ l. l ++ (within ++ row-text level behind)) (sym e) ∙ sym (append-assoc mid within (row-text level behind)) ∙ ap (λ l. l ++ row-text level behind) (sym (inner less q rq)))
+          | plain low behind r text ↦ absurd (omega arith)
+          | nested high′ less q rq behind r text ↦
+              let own = element-text level (x .tag) (x .contents .now) true in
+              let within = row-text (level + 1) q in
+              (behind, r, same ∙ ap (λ l. was ++ l) text ∙ sym (append-assoc was own (within ++ row-text level behind)) ∙ ap (λ l. l ++ (within ++ row-text level behind)) (sym e) ∙ sym (append-assoc mid within (row-text level behind)) ∙ ap (λ l. l ++ row-text level behind) (sym (inner less q rq)))
         ];
   }

@@ -3,7 +3,6 @@ use mathlib.Core.Path.{_≡_}
 use mathlib.Core.List.{List, [], _∷_, _++_}
 use Prim.Native.Nat.{ℕ, min, _≤_, _<_}
 use lib.ListN.{length, getD}
-use Rattle.std.specs.Of.Vec.{vec-items}
 use Rattle.std.specs.Results.{Cases}
 use Rattle.std.specs.declared.option.Option.{Option}
 use Rattle.std.specs.declared.option.Option.the-variants.{Some, None}
@@ -20,9 +19,8 @@ use Rattle.search.specs.Answers.{rejected-by}
 use Rattle.search.specs.Places.{Place}
 use Rattle.text.specs.Meaning.{Says, nothing, paper, seals, trusted, piece, chain}
 use Rattle.text.specs.Texts.{bytes-text, chain-text, none-text, ill-text, refusal-text, Begins}
-use Rattle.session.specs.Books.{Brought, held}
+use Rattle.session.specs.Books.{Brought}
 use Rattle.session.specs.Rows.{row-text}
-use Rattle.session.specs.declared.Book.{Book}
 
 -- `paper HEX..`: the elements of the row that the bytes read as, or the place at which they are malformed
 pub data Paper-answer (bytes : List ℕ) : (text : List ℕ) → Type 0 where
@@ -66,10 +64,6 @@ Answered b numbers line (Some (seals marks)) text = text ≡ []
 Answered b numbers line (Some (trusted marks)) text = text ≡ []
 Answered b numbers line (Some (piece p path)) text = Piece-answer (b .papers) p path text
 Answered b numbers line (Some (chain first day)) text = Chain-answer b numbers line first day text
-
--- the answer that a book gives
-abbrev pub Answered-by : Book → (line : ℕ) → Option Says → (text : List ℕ) → Type 0
-Answered-by b = Answered (held b) (vec-items (b .numbers))
 
 -- a text that is an answer is put behind the old bytes; if memory fails, the old bytes still stand in front
 abbrev pub Puts : {T E : Type 0} → (is-answer : List ℕ → Type 0) → Result T E → (old new : List ℕ) → Type 0
