@@ -73,11 +73,22 @@ impl Trials {
 
 // ---- a plain reader
 
-fn written_length(n: usize) -> Vec<u8> {
+// The bytes of a length, of which only so many count.
+struct Written([u8; 3], usize);
+
+impl std::ops::Deref for Written {
+    type Target = [u8];
+
+    fn deref(&self) -> &[u8] {
+        &self.0[..self.1]
+    }
+}
+
+fn written_length(n: usize) -> Written {
     match n {
-        0..=127 => vec![n as u8],
-        128..=255 => vec![129, n as u8],
-        _ => vec![130, (n / 256) as u8, (n % 256) as u8],
+        0..=127 => Written([n as u8, 0, 0], 1),
+        128..=255 => Written([129, n as u8, 0], 2),
+        _ => Written([130, (n / 256) as u8, (n % 256) as u8], 3),
     }
 }
 
@@ -181,7 +192,7 @@ fn plain_piece(b: &[u8], path: &[u64]) -> Span {
 
 fn element(tag: u8, contents: &[u8]) -> Vec<u8> {
     let mut e = vec![tag];
-    e.extend(written_length(contents.len()));
+    e.extend(written_length(contents.len()).iter());
     e.extend(contents);
     e
 }

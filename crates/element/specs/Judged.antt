@@ -2,18 +2,12 @@
 use mathlib.Core.List.{List}
 use Prim.Native.Nat.{ℕ}
 use Rattle.format.specs.Elements.{Row, Reads}
+use Rattle.format.specs.Viable.{Ill-at}
+pub use Rattle.progress.specs.Progressed.{deepest, longest}
 use Rattle.element.specs.declared.judging.Verdict.{Verdict}
 use Rattle.element.specs.declared.judging.Verdict.the-variants.{Well, Ill}
 
--- constructed elements stand within one another at most so deep
-abbrev pub deepest : ℕ
-deepest = 8
-
--- contents have at most so many bytes
-abbrev pub longest : ℕ
-longest = 65535
-
--- well exactly if the bytes read as a row of elements
+-- well exactly if the bytes read as a row of elements, else ill at the place where they are malformed
 abbrev pub Judged : List ℕ → Verdict → Type 0
 Judged b Well = (row : Row) × Reads deepest longest b row
-Judged b Ill = (row : Row) → Reads deepest longest b row → ⊥
+Judged b (Ill at) = ((row : Row) → Reads deepest longest b row → ⊥) × Ill-at deepest longest b at

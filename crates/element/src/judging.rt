@@ -7,12 +7,15 @@ ghost use Rattle.format.specs.Elements.{all-bytes, Readable};
 ghost use Rattle.element.specs.Judged.{Judged, longest};
 ghost use Rattle.element.specs.Openings.{Opened, Decides};
 use length::Length;
+use progress::ill_place;
 
-// What judging answers: the bytes are a row of elements, or they are not.
-#[derive(Clone, Copy)]
+// What judging answers.
+#[derive(Clone, Copy, PartialEq, Eq, Debug)]
 pub enum Verdict {
+    // The bytes are a row of elements.
     Well,
-    Ill,
+    // They are not: `at` is the first byte after which no bytes behind could make them one, or how many there are.
+    Ill { at: usize },
 }
 
 // The first element of bytes: its tag, and from where to where its contents stand.
@@ -23,14 +26,17 @@ pub struct Opening {
     pub end: usize,
 }
 
-// Whether the bytes are a row of elements.
+// Whether the bytes are a row of elements; only malformed ones are gone over again, for the place.
 pub fn judge(bytes: &[u8]) -> Verdict
     ensures { λ r. ⌜ Judged (now (bytes .entry)) r ⌝ }
 {
     if Reader::row(bytes, Reader::MAX_DEPTH) {
-        Verdict::Well
-    } else {
-        Verdict::Ill
+        return Verdict::Well;
+    }
+    match ill_place(bytes) {
+        Some(at) => Verdict::Ill { at },
+        // Not reached: the two readers agree.
+        None => Verdict::Well,
     }
 }
 

@@ -4,6 +4,8 @@ mod tests {
     use element::Cursor;
     use element::CursorIterator;
     use element::Verdict;
+    use element::VerdictDebug;
+    use element::VerdictPartialEq;
     use element::WriteError;
     use element::WriteErrorDebug;
     use element::WriteErrorPartialEq;
@@ -24,7 +26,7 @@ mod tests {
     fn is_well(bytes: &[u8]) -> bool {
         match judge(bytes) {
             Verdict::Well => true,
-            Verdict::Ill => false,
+            Verdict::Ill { at: _ } => false,
         }
     }
 
@@ -52,24 +54,34 @@ mod tests {
 
     #[test]
     fn judged() -> Result<(), Fail> {
-        let table: [(&[u8], bool); 14] = [
-            (&[], true),
-            (&ROW, true),
-            (&[5, 129, 2, 7, 8], false),
-            (&[5, 3, 7, 8], false),
-            (&[5], false),
-            (&[5, 0], true),
-            (&[5, 0, 5], false),
-            (&[128, 0], true),
-            (&[128, 1, 5], false),
-            (&[128, 3, 1, 5, 65], false),
-            (&[128, 3, 1, 1, 65], true),
-            (&[128, 3, 1, 1, 65, 9], false),
-            (&[5, 131, 0, 0, 0], false),
-            (&[255, 2, 127, 0], true),
+        let table: [(&[u8], Option<usize>); 20] = [
+            (&[], None),
+            (&ROW, None),
+            (&[5, 0], None),
+            (&[128, 0], None),
+            (&[128, 3, 1, 1, 65], None),
+            (&[255, 2, 127, 0], None),
+            (&[5], Some(1)),
+            (&[130], Some(1)),
+            (&[128, 1], Some(1)),
+            (&[128, 3, 128], Some(2)),
+            (&[5, 129, 2, 7, 8], Some(2)),
+            (&[5, 3, 7, 8], Some(4)),
+            (&[5, 0, 5], Some(3)),
+            (&[128, 1, 5], Some(1)),
+            (&[128, 3, 1, 5, 65], Some(3)),
+            (&[128, 3, 1, 1, 65, 9], Some(6)),
+            (&[128, 4, 1, 1, 65, 9], Some(3)),
+            (&[5, 131, 0, 0, 0], Some(1)),
+            (&[5, 130, 0, 255], Some(2)),
+            (&[5, 128], Some(1)),
         ];
-        for (bytes, well) in table {
-            check_eq(is_well(bytes), well)?;
+        for (bytes, ill) in table {
+            let verdict = match ill {
+                Some(at) => Verdict::Ill { at },
+                None => Verdict::Well,
+            };
+            check_eq(judge(bytes), verdict)?;
         }
         Ok(())
     }

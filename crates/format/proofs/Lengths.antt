@@ -117,3 +117,15 @@ begins? b = ⊎-elim (λ some. ⊎-elim (λ h. inl (record { some = some; form =
 -- bytes begin with a length, or with none
 pub front-length : (b : List ℕ) → ((n : ℕ) × (r : List ℕ) × (b ≡ written-length n ++ r)) ⊎ No-length b
 front-length b = ⊎-elim (λ h. inl (starts b h)) (λ f. inr (λ n r e. f (begins b n r e))) (begins? b)
+
+-- what the first bytes are where a length is written, and how many they are
+abbrev pub Says : List ℕ → ℕ → Type 0
+Says b n =
+    ((n < 128) × (1 ≤ length b) × (getD b 0 0 ≡ n) × (length (written-length n) ≡ 1))
+    ⊎ (((128 ≤ n) × (n < 256) × (2 ≤ length b) × (getD b 0 0 ≡ 129) × (getD b 1 0 ≡ n) × (length (written-length n) ≡ 2))
+    ⊎ ((256 ≤ n) × (3 ≤ length b) × (getD b 0 0 ≡ 130) × (getD b 1 0 ≡ n / 256) × (getD b 2 0 ≡ n % 256) × (length (written-length n) ≡ 3)))
+
+pub says : (b : List ℕ) (n : ℕ) (r : List ℕ) → b ≡ written-length n ++ r → Says b n
+says b n r e =
+    ⊎-elim (λ h. let s = short n h in subst (λ l. Says l n) (sym (e ∙ ap (λ l. l ++ r) s)) (inl (h, omega arith, refl, ap length s)))
+    (λ h. ⊎-elim (λ k. let s = middle n h k in subst (λ l. Says l n) (sym (e ∙ ap (λ l. l ++ r) s)) (inr (inl (h, k, omega arith, refl, refl, ap length s)))) (λ k. let s = long n k in subst (λ l. Says l n) (sym (e ∙ ap (λ l. l ++ r) s)) (inr (inr (k, omega arith, refl, refl, refl, ap length s)))) (cases-lt n 256)) (cases-lt n 128)

@@ -1,7 +1,11 @@
+pub mod Bytes
+pub mod Fillings
 pub mod Fronts
 pub mod Lengths
 pub mod Limits
 pub mod Places
 pub mod Readings
+pub mod Rests
 pub mod Rows
+pub mod Viability
 pub mod Walks

@@ -1,3 +1,4 @@
 pub mod Elements
 pub mod Paths
 pub mod Promise
+pub mod Viable

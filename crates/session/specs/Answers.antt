@@ -8,6 +8,7 @@ use Rattle.std.specs.declared.option.Option.{Option}
 use Rattle.std.specs.declared.option.Option.the-variants.{Some, None}
 use Rattle.std.specs.declared.result.Result.{Result}
 use Rattle.format.specs.Elements.{Row, Reads}
+use Rattle.format.specs.Viable.{Ill-at}
 use Rattle.element.specs.Judged.{deepest, longest}
 use Rattle.element.specs.Located.{Piece}
 use Rattle.trust.specs.Chains.{Pool, Chain, Shortest}
@@ -25,7 +26,7 @@ use Rattle.session.specs.Rows.{row-text}
 -- `paper HEX..`: the elements of the row that the bytes read as, or the place at which they are malformed
 pub data Paper-answer (bytes : List ℕ) : (text : List ℕ) → Type 0 where
   well : (row : Row) → Reads deepest longest bytes row → Paper-answer bytes (row-text 0 row)
-  ill : (at : ℕ) → ((row : Row) → Reads deepest longest bytes row → ⊥) → Paper-answer bytes (ill-text at)
+  ill : (at : ℕ) → ((row : Row) → Reads deepest longest bytes row → ⊥) → Ill-at deepest longest bytes at → Paper-answer bytes (ill-text at)
 
 -- a part of bytes; `none` if it is empty
 abbrev pub part-text : List ℕ → List ℕ

@@ -33,7 +33,7 @@ fn answer_paper(bytes: &[u8], out: &mut Vec<u8>) -> Result<(), AllocError>
 {
     match judge(bytes) {
         Verdict::Well => append_row(out, 0, Cursor::new(bytes)),
-        Verdict::Ill => append_ill(out, bytes.len() as u64),
+        Verdict::Ill { at } => append_ill(out, at as u64),
     }
 }
 

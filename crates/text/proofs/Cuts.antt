@@ -10,7 +10,7 @@ use Rattle.std.proofs.shelf.Lists.{at-drop-more, at-drop-all, length-take-le, l
 use Rattle.text.specs.Pieces.{blank, line-end, lengthened, pieces, some-of, words, lines, run}
 
 module _ (ends : ℕ → Bool) where
-  pub run-le : (bs : List ℕ) → run ends bs ≤ length bs
+  run-le : (bs : List ℕ) → run ends bs ≤ length bs
   unfolding run
   run-le [] = omega arith
   run-le (b ∷ bs) = let more = run-le bs in elim (ends b) as (λ t. cond t zero (suc (run ends bs)) ≤ suc (length bs)) [ true ↦ omega arith | false ↦ omega arith ]
@@ -32,7 +32,7 @@ module _ (ends : ℕ → Bool) where
   abbrev First : List ℕ → Type 0
   First bs = pieces ends bs ≡ take (run ends bs) bs ∷ pieces ends (drop (suc (run ends bs)) bs)
 
-  pub first-piece : (b : ℕ) (bs : List ℕ) → First (b ∷ bs)
+  first-piece : (b : ℕ) (bs : List ℕ) → First (b ∷ bs)
   unfolding run pieces
   first-piece b [] = elim (ends b) as (λ t. cond t ([] ∷ []) ((b ∷ []) ∷ []) ≡ take (cond t zero 1) (b ∷ []) ∷ pieces ends (drop (suc (cond t zero 1)) (b ∷ []))) [ true ↦ refl | false ↦ refl ]
   first-piece b (c ∷ bs) =
@@ -41,7 +41,7 @@ module _ (ends : ℕ → Bool) where
       [ true ↦ refl | false ↦ ap (lengthened b) more ]
 
   -- the same, by the count of the bytes before
-  pub first-at : (b : ℕ) (bs : List ℕ) (n : ℕ) → n ≡ run ends (b ∷ bs) → pieces ends (b ∷ bs) ≡ take n (b ∷ bs) ∷ pieces ends (drop (n + 1) (b ∷ bs))
+  first-at : (b : ℕ) (bs : List ℕ) (n : ℕ) → n ≡ run ends (b ∷ bs) → pieces ends (b ∷ bs) ≡ take n (b ∷ bs) ∷ pieces ends (drop (n + 1) (b ∷ bs))
   first-at b bs n is =
       first-piece b bs ∙ ap (λ k. take k (b ∷ bs) ∷ pieces ends (drop (suc k) (b ∷ bs))) (sym is) ∙ ap (λ k. take n (b ∷ bs) ∷ pieces ends (drop k (b ∷ bs))) (sym (add-one n))
 
@@ -58,7 +58,7 @@ no-word (b ∷ bs) n lt is none =
     let one : 1 ≡ n + 1 = omega arith in
     ap some-of (first-piece blank b bs ∙ ap (λ k. take k (b ∷ bs) ∷ pieces blank (drop (suc k) (b ∷ bs))) zero-run) ∙ ap (λ k. some-of (pieces blank (drop k (b ∷ bs)))) one
 
-one-word : (w : List ℕ) (ps : List (List ℕ)) → 0 < length w → some-of (w ∷ ps) ≡ w ∷ some-of ps
+pub one-word : (w : List ℕ) (ps : List (List ℕ)) → 0 < length w → some-of (w ∷ ps) ≡ w ∷ some-of ps
 one-word [] ps lt = absurd (omega arith)
 one-word (b ∷ w) ps lt = refl
 
@@ -68,7 +68,7 @@ unfolding words
 first-word [] n is lt = absurd (omega (arith, run-le blank []))
 first-word (b ∷ bs) n is lt =
     let long = length-take-le n (b ∷ bs) (omega (arith, run-le blank (b ∷ bs))) in
-    ap some-of (first-piece blank b bs ∙ ap (λ k. take k (b ∷ bs) ∷ pieces blank (drop (suc k) (b ∷ bs))) (sym is) ∙ ap (λ k. take n (b ∷ bs) ∷ pieces blank (drop k (b ∷ bs))) (sym (add-one n))) ∙ one-word (take n (b ∷ bs)) (pieces blank (drop (n + 1) (b ∷ bs))) (omega arith)
+    ap some-of (first-at blank b bs n is) ∙ one-word (take n (b ∷ bs)) (pieces blank (drop (n + 1) (b ∷ bs))) (omega arith)
 
 -- behind the byte at n there are fewer bytes
 pub fewer : (bs : List ℕ) (n : ℕ) → 0 < length bs → length (drop (n + 1) bs) < length bs

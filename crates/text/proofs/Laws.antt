@@ -8,6 +8,7 @@ use native.Mathlib.Omega.{arith}
 use lib.ListN.{length}
 use Rattle.text.specs.Pieces.{blank, line-end, lengthened, pieces, some-of, words, lines}
 use Rattle.text.specs.Promise.{Every, Pieces-of, Lines-stand, Word-ends, Words-of, Words-stand}
+use Rattle.text.proofs.Cuts.{one-word}
 
 module _ (ends : ℕ → Bool) where
   -- a byte more in front of the first piece
@@ -16,7 +17,7 @@ module _ (ends : ℕ → Bool) where
   longer b bs (p ∷ ps) off (h, inl (rest, e, more)) = ((off, h), inl (rest, record { end = e .end; at-end = e .at-end; cut = ap (λ l. b ∷ l) (e .cut) }, more))
   longer b bs (p ∷ ps) off (h, inr e) = ((off, h), inr (record { some = omega arith; whole = ap (λ l. b ∷ l) (e .whole); last = e .last }))
 
-  pub pieces-are : (bs : List ℕ) → Pieces-of ends bs (pieces ends bs)
+  pieces-are : (bs : List ℕ) → Pieces-of ends bs (pieces ends bs)
   unfolding pieces
   pieces-are [] = refl
   pieces-are (b ∷ bs) = go (ends b) refl (pieces-are bs)
@@ -34,17 +35,17 @@ module _ (ends : ℕ → Bool) where
   unfolding pieces
   on-end b bs on = ap (λ t. cond t ([] ∷ pieces ends bs) (lengthened b (pieces ends bs))) on
 
-  pub piece-and-end : (p : List ℕ) (b : ℕ) (rest : List ℕ) → Every ends false p → ends b ≡ true → pieces ends (p ++ b ∷ rest) ≡ p ∷ pieces ends rest
+  piece-and-end : (p : List ℕ) (b : ℕ) (rest : List ℕ) → Every ends false p → ends b ≡ true → pieces ends (p ++ b ∷ rest) ≡ p ∷ pieces ends rest
   piece-and-end [] b rest h on = on-end b rest on
   piece-and-end (c ∷ p) b rest h on = on-piece c (p ++ b ∷ rest) (h .0) ∙ ap (lengthened c) (piece-and-end p b rest (h .1) on)
 
-  pub last-alone : (p : List ℕ) → 0 < length p → Every ends false p → pieces ends p ≡ p ∷ []
+  last-alone : (p : List ℕ) → 0 < length p → Every ends false p → pieces ends p ≡ p ∷ []
   unfolding pieces
   last-alone [] lt h = absurd (omega arith)
   last-alone (c ∷ []) lt h = on-piece c [] (h .0)
   last-alone (c ∷ (d ∷ p)) lt h = on-piece c (d ∷ p) (h .0) ∙ ap (lengthened c) (last-alone (d ∷ p) (omega arith) (h .1))
 
-  pub pieces-only : (ps : List (List ℕ)) (bs : List ℕ) → Pieces-of ends bs ps → pieces ends bs ≡ ps
+  pieces-only : (ps : List (List ℕ)) (bs : List ℕ) → Pieces-of ends bs ps → pieces ends bs ≡ ps
   unfolding pieces
   pieces-only [] bs e = ap (pieces ends) e
   pieces-only (p ∷ ps) bs (h, inl (rest, e, more)) = ap (pieces ends) (e .cut) ∙ piece-and-end p (e .end) rest h (e .at-end) ∙ ap (λ l. p ∷ l) (pieces-only ps rest more)
@@ -81,10 +82,6 @@ none-in-gap : (gap : List ℕ) → Every blank true gap → words gap ≡ []
 unfolding words pieces
 none-in-gap [] h = refl
 none-in-gap (b ∷ gap) h = past-blank b gap (h .0) ∙ none-in-gap gap (h .1)
-
-one-word : (w : List ℕ) (ps : List (List ℕ)) → 0 < length w → some-of (w ∷ ps) ≡ w ∷ some-of ps
-one-word [] ps lt = absurd (omega arith)
-one-word (b ∷ w) ps lt = refl
 
 pub word-in-front : (w rest : List ℕ) → 0 < length w → Every blank false w → Word-ends rest → words (w ++ rest) ≡ w ∷ words rest
 unfolding words pieces

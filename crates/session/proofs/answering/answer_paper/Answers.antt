@@ -14,4 +14,4 @@ returns-in-Well c =
     (λ ok. c .append-row .ensures .shown ok deepest row (subst (λ b. Reads deepest longest b row) (sym (c .new .ensures .rest)) reads))
 
 pub returns-in-Ill : need.returns-in-Ill
-returns-in-Ill c = puts (Paper-answer (c .args .bytes .now)) _ _ _ _ (ill _ (c .in-Ill .ensures tt)) (c .append-ill .ensures)
+returns-in-Ill c = puts (Paper-answer (c .args .bytes .now)) _ _ _ _ (ill _ (c .in-Ill .ensures tt .0) (c .in-Ill .ensures tt .1)) (c .append-ill .ensures)
