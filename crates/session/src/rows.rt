@@ -31,9 +31,10 @@ pub(crate) fn append_row(
     for element in cursor {
         let constructed = element.tag >= Reader::CONSTRUCTED;
         append_element(out, level, element.tag, element.contents, constructed)?;
-        if constructed {
-            append_row(out, level + 1, element.inside())?;
+        if !constructed {
+            continue;
         }
+        append_row(out, level + 1, element.inside())?;
     }
     Ok(())
 }

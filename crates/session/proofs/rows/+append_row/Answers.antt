@@ -22,12 +22,12 @@ append-row-requires t c κs =
     let inner = ap length (c .inside .ensures .rest) in
     (omega arith, (omega (arith, c .loop-element .inv .0, s .within, s .place, ap length (s .front), length-append (c .in-Some .element .whole .now) (ahead (c .next .last .self)), c .inside .ensures .place), omega arith))
 
-pub loop-element-again-in-Continue·-branch-2 : need.loop-element-again-in-Continue·-branch-2
-loop-element-again-in-Continue·-branch-2 t c =
+pub loop-element-again : need.loop-element-again
+loop-element-again t c =
     let i = c .loop-element .inv .2 in
     let s = c .in-Some .ensures tt .steps in
     let inner = c .in-Continue-append-row .ensures tt in
-    (c .in-Some .ensures tt .goes .on tt .0, tt, printed-nested _ _ _ _ _ _ _ i s _ _ (c .if-constructed .taken) (c .in-Continue-append-element .ensures tt) (inner .front) (λ d row h. inner .shown refl d row (subst (λ b. Reads d longest b row) (sym (c .inside .ensures .rest)) h)))
+    (c .in-Some .ensures tt .goes .on tt .0, tt, printed-nested _ _ _ _ _ _ _ i s _ _ (c .if-not-constructed .left) (c .in-Continue-append-element .ensures tt) (inner .front) (λ d row h. inner .shown refl d row (subst (λ b. Reads d longest b row) (sym (c .inside .ensures .rest)) h)))
 
 pub returns-in-Break-append-row : need.returns-in-Break-append-row
 returns-in-Break-append-row t c = record {
@@ -35,9 +35,9 @@ returns-in-Break-append-row t c = record {
   shown = λ ok. absurd (not-ok _ (c .from-residual-in-Break-append-row .ensures .0) ok);
 }
 
-pub loop-element-again : need.loop-element-again
-loop-element-again t c =
-    (c .in-Some .ensures tt .goes .on tt .0, tt, printed-plain _ _ _ _ _ _ _ (c .loop-element .inv .2) (c .in-Some .ensures tt .steps) _ (c .if-constructed .left) (c .in-Continue-append-element .ensures tt))
+pub loop-element-again-then-not-constructed : need.loop-element-again-then-not-constructed
+loop-element-again-then-not-constructed t c =
+    (c .in-Some .ensures tt .goes .on tt .0, tt, printed-plain _ _ _ _ _ _ _ (c .loop-element .inv .2) (c .in-Some .ensures tt .steps) _ (c .if-not-constructed .taken) (c .in-Continue-append-element .ensures tt))
 
 pub returns : need.returns
 returns t c = record {
