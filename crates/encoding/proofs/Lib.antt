@@ -1,3 +1,4 @@
 pub mod Digits
+pub mod Laws
 pub mod Tails
 pub mod Wholes

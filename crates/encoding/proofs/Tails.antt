@@ -1,24 +1,26 @@
 -- The fields of a permit, one behind the other, and what is ahead behind some of them. Assumes nothing.
-use mathlib.Core.Path.{_≡_, refl, sym, ap, subst, _∙_}
+use mathlib.Core.Path.{_≡_, refl, sym, ap, _∙_}
 use mathlib.Core.Bool.{Bool, true, false, cond}
 use mathlib.Core.List.{List, [], _∷_, _++_}
-use Prim.Native.Nat.{ℕ, zero, suc, _+_, _^_, _≤_, _<_}
+use Prim.Native.Nat.{ℕ, zero, suc, _^_, _<_}
 use native.Mathlib.Omega.{arith}
+use lib.Dec.{eqb}
 use lib.ListN.{length, getD, drop, length-append}
 use Rattle.std.specs.declared.option.Option.{Option}
 use Rattle.std.specs.declared.option.Option.the-variants.{Some, None}
 use Rattle.std.proofs.shelf.Lists.{nil-from-length}
+use Rattle.std.proofs.shelf.Tests.{eqb-true, eqb-false}
 use Rattle.std.proofs.shelf.Ways.{tells}
 use Rattle.format.specs.Elements.{framed, written}
 use Rattle.format.proofs.Fronts.{same-front}
 use Rattle.trust.specs.Chains.{Certificate}
 use Rattle.element.specs.declared.walking.Cursor.{Cursor}
 use Rattle.element.specs.declared.walking.Element.{Element}
-use Rattle.element.specs.Cursors.{ahead, Passes, Next}
+use Rattle.element.specs.Cursors.{ahead, Passes}
 use Rattle.encoding.specs.Numbers.{big-endian, number-bytes, Numbered}
 use Rattle.encoding.specs.Permits.{mark-bytes, marked, fields-row, In-range}
 use Rattle.encoding.specs.Fields.{Says, Field}
-use Rattle.encoding.proofs.Digits.{few-bytes, same-number}
+use Rattle.encoding.proofs.Digits.{same-number}
 
 -- fields that say numbers, from a tag on
 abbrev pub tagged : ℕ → List ℕ → List ℕ
@@ -36,7 +38,7 @@ numbers-of c = c .subject ∷ (c .issuer ∷ (c .not-before ∷ (c .not-after �
 abbrev pub past : ℕ → Certificate → List ℕ
 past k c = tagged (suc k) (drop k (numbers-of c))
 
-bit-bytes : (b : Bool) → number-bytes (bit b) ≡ mark-bytes b
+pub bit-bytes : (b : Bool) → number-bytes (bit b) ≡ mark-bytes b
 unfolding number-bytes big-endian
 bit-bytes true = refl
 bit-bytes false = refl
@@ -56,7 +58,7 @@ past-more (suc (suc (suc (suc zero)))) c h = refl
 past-more (suc (suc (suc (suc (suc zero))))) c h = refl
 past-more (suc (suc (suc (suc (suc (suc k)))))) c h = absurd (omega arith)
 
-bit-below : (b : Bool) → bit b < 2 ^ 32
+pub bit-below : (b : Bool) → bit b < 2 ^ 32
 bit-below true = omega arith
 bit-below false = omega arith
 
@@ -133,14 +135,14 @@ module _ {s c₁ : Cursor} {n₁ : ℕ} (one : Says s 1 n₁ c₁) where
 
           module _ {c₆ : Cursor} {n₆ : ℕ} (six : Says c₅ 6 n₆ c₆) where
             -- something behind the sixth field
-            pub more-behind : 0 < length (ahead c₆) → Fieldless s
-            more-behind some p r e = omega (arith, ap length (left-more 5 (omega arith) left-5 six .on p r e))
+            pub more-behind : eqb (length (ahead c₆)) 0 ≡ false → Fieldless s
+            more-behind some p r e = eqb-false (length (ahead c₆)) 0 some (sym (ap length (left-more 5 (omega arith) left-5 six .on p r e)))
 
             -- nothing behind it
-            pub six-fields : length (ahead c₆) ≤ 0 → (m : Bool) → Some m ≡ marked n₅ → tagged 1 (n₁ ∷ (n₂ ∷ (n₃ ∷ (n₄ ∷ (bit m ∷ (n₆ ∷ [])))))) ≡ ahead s
+            pub six-fields : eqb (length (ahead c₆)) 0 ≡ true → (m : Bool) → Some m ≡ marked n₅ → tagged 1 (n₁ ∷ (n₂ ∷ (n₃ ∷ (n₄ ∷ (bit m ∷ (n₆ ∷ [])))))) ≡ ahead s
             six-fields none m e =
                 ap (λ n. tagged 1 (n₁ ∷ (n₂ ∷ (n₃ ∷ (n₄ ∷ (n ∷ (n₆ ∷ []))))))) (sym (mark-bit n₅ m e))
-                ∙ said (n₂ ∷ (n₃ ∷ (n₄ ∷ (n₅ ∷ (n₆ ∷ []))))) one (said (n₃ ∷ (n₄ ∷ (n₅ ∷ (n₆ ∷ [])))) two (said (n₄ ∷ (n₅ ∷ (n₆ ∷ []))) three (said (n₅ ∷ (n₆ ∷ [])) four (said (n₆ ∷ []) five (said [] six (sym (nil-from-length (ahead c₆) (omega arith))))))))
+                ∙ said (n₂ ∷ (n₃ ∷ (n₄ ∷ (n₅ ∷ (n₆ ∷ []))))) one (said (n₃ ∷ (n₄ ∷ (n₅ ∷ (n₆ ∷ [])))) two (said (n₄ ∷ (n₅ ∷ (n₆ ∷ []))) three (said (n₅ ∷ (n₆ ∷ [])) four (said (n₆ ∷ []) five (said [] six (sym (nil-from-length (ahead c₆) (eqb-true (length (ahead c₆)) 0 none))))))))
 
 -- the bytes that an element at the front of a cursor begins
 pub front-of : (c : Cursor) (e : Element) (after : Cursor) → Passes c e after → ahead c ≡ framed (e .tag) (e .contents .now) ++ ahead after

@@ -1,12 +1,15 @@
 -- The one element that is a permit. Assumes nothing.
-use mathlib.Core.Path.{_≡_, refl, sym, ap, subst, _∙_}
+use mathlib.Core.Path.{_≡_, refl, sym, ap, _∙_}
+use mathlib.Core.Bool.{true, false}
 use mathlib.Core.List.{List, [], _∷_, _++_}
-use Prim.Native.Nat.{ℕ, zero, suc, _+_, _*_, _^_, _≤_, _<_}
+use Prim.Native.Nat.{ℕ, suc, _*_, _^_, _≤_, _<_}
 use native.Mathlib.Omega.{arith}
+use lib.Dec.{eqb}
 use lib.ListN.{length, getD, length-append}
 use Rattle.std.specs.declared.option.Option.{Option}
 use Rattle.std.specs.declared.option.Option.the-variants.{Some, None}
 use Rattle.std.proofs.shelf.Lists.{nil-from-length}
+use Rattle.std.proofs.shelf.Tests.{eqb-true, eqb-false}
 use Rattle.format.specs.Elements.{framed, written}
 use Rattle.format.proofs.Fronts.{same-front}
 use Rattle.format.proofs.Lengths.{short}
@@ -56,13 +59,13 @@ module _ (b : List ℕ) (s : Cursor) (e : Element) (after : Cursor) (start : ahe
   pub other-tag : (e .tag ≡ 128 → ⊥) → No-permit b
   other-tag other c h k = other (parts c k .0)
 
-  pub one-behind : 0 < length (ahead after) → No-permit b
-  one-behind some c h k = omega (arith, ap length (parts c k .2))
+  pub one-behind : eqb (length (ahead after)) 0 ≡ false → No-permit b
+  one-behind some c h k = eqb-false (length (ahead after)) 0 some (ap length (parts c k .2))
 
-  module _ (tag : e .tag ≡ 128) (last : length (ahead after) ≤ 0) (inner : Cursor) (within : ahead inner ≡ e .contents .now) where
+  module _ (tag : e .tag ≡ 128) (last : eqb (length (ahead after)) 0 ≡ true) (inner : Cursor) (within : ahead inner ≡ e .contents .now) where
     pub whole : (r : Option Held) → Fields inner r → Decoded b r
     whole (Some h) k =
-        let none : ahead after ≡ [] = nil-from-length (ahead after) (omega arith) in
-        let same : e .contents .now ≡ written (fields-row (certificate-of h)) = sym (k ∙ within) in
-        permit-is (certificate-of h) ∙ sym (λ i. framed (tag i) (same i) ++ none i) ∙ sym (front-of s e after p) ∙ start
+        let none : ahead after ≡ [] = nil-from-length (ahead after) (eqb-true (length (ahead after)) 0 last) in
+        let same : e .contents .now ≡ written (fields-row (certificate-of h)) = sym (k .1 ∙ within) in
+        (k .0, permit-is (certificate-of h) ∙ sym (λ i. framed (tag i) (same i) ++ none i) ∙ sym (front-of s e after p) ∙ start)
     whole None k = λ c h l. k c h (sym (within ∙ parts c l .1))

@@ -24,7 +24,12 @@ abbrev pub Field : Cursor → (tag : ℕ) → Option ℕ → Cursor → Type 0
 Field c tag (Some n) after = Says c tag n after
 Field c tag None after = (n : ℕ) (behind : List ℕ) → n < 2 ^ 32 → ahead c ≡ framed tag (number-bytes n) ++ behind → ⊥
 
+-- a field that says a number, written behind the old bytes
+pub record Appended (tag n : ℕ) (old new : List ℕ) : Type 0 where
+  pub range : n < 2 ^ 32
+  pub behind : new ≡ old ++ framed tag (number-bytes n)
+
 -- the certificate whose fields are ahead and nothing else, or none exactly if there is none
 abbrev pub Fields : Cursor → Option Held → Type 0
-Fields s (Some h) = written (fields-row (certificate-of h)) ≡ ahead s
+Fields s (Some h) = In-range (certificate-of h) × (written (fields-row (certificate-of h)) ≡ ahead s)
 Fields s None = (c : Certificate) → In-range c → written (fields-row c) ≡ ahead s → ⊥

@@ -1,3 +1,4 @@
+pub mod Fields
 pub mod Numbers
 pub mod Permits
-pub mod Fields
+pub mod Promise

@@ -22,6 +22,10 @@ number-size n = cond (ltb n (2 ^ 8)) 1 (cond (ltb n (2 ^ 16)) 2 (cond (ltb n (2 
 unfoldable pub number-bytes : ℕ → List ℕ
 number-bytes n = big-endian (number-size n) n
 
+-- all four bytes of a number, the higher first
+abbrev pub four-bytes : ℕ → List ℕ
+four-bytes n = n / 2 ^ 24 % 256 ∷ (n / 2 ^ 16 % 256 ∷ (n / 2 ^ 8 % 256 ∷ (n % 256 ∷ [])))
+
 -- what bytes count to, the higher first
 abbrev pub value-of : List ℕ → ℕ
 value-of b = folded (λ n x. n * 256 + x) 0 b

@@ -56,5 +56,5 @@ certificate-of h = record {
 
 -- the certificate whose bytes these are, or none exactly if they are no permit
 abbrev pub Decoded : List ℕ → Option Held → Type 0
-Decoded b (Some h) = permit-bytes (certificate-of h) ≡ b
+Decoded b (Some h) = In-range (certificate-of h) × (permit-bytes (certificate-of h) ≡ b)
 Decoded b None = (c : Certificate) → In-range c → permit-bytes c ≡ b → ⊥

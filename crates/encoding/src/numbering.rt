@@ -2,7 +2,7 @@
 ghost use mathlib.Core.Path.{_≡_};
 ghost use Prim.Native.Nat.{_≤_};
 ghost use lib.ListN.{length};
-ghost use Rattle.encoding.specs.Numbers.{numeric, Numbered, value-of};
+ghost use Rattle.encoding.specs.Numbers.{Numbered, four-bytes, number-size, numeric, value-of};
 
 // How numbers are written.
 pub struct Number;
@@ -11,9 +11,16 @@ impl Number {
     // A number has at least so many bytes.
     const MIN_BYTES: usize = 1;
     // A number has at most so many bytes.
-    const MAX_BYTES: usize = 4;
+    pub const MAX_BYTES: usize = 4;
     // How many values a byte has.
     const BYTE: u32 = 256;
+
+    // Numbers below these have one, two and three bytes.
+    const ONE_BYTE_END: u32 = 256;
+
+    const TWO_BYTES_END: u32 = 65_536;
+
+    const THREE_BYTES_END: u32 = 16_777_216;
 
     // The number that the bytes are, if they are one's.
     pub fn read(bytes: &[u8]) -> Option<u32>
@@ -24,6 +31,29 @@ impl Number {
         } else {
             None
         }
+    }
+
+    // How few bytes a number can be.
+    pub fn size(value: u32) -> usize
+        ensures { λ r. ⌜ r ≡ number-size value ⌝ }
+    {
+        if value < Number::ONE_BYTE_END {
+            return 1;
+        }
+        if value < Number::TWO_BYTES_END {
+            return 2;
+        }
+        if value < Number::THREE_BYTES_END {
+            return 3;
+        }
+        Number::MAX_BYTES
+    }
+
+    // All four bytes of a number, the higher first.
+    pub fn bytes(value: u32) -> [u8; 4]
+        ensures { λ r. ⌜ r ≡ four-bytes value ⌝ }
+    {
+        value.to_be_bytes()
     }
 
     // Whether the bytes are as many as a number has, and no fewer would do.

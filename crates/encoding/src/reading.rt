@@ -1,6 +1,7 @@
 // Permits decoded.
 ghost use mathlib.Core.Path.{_≡_};
 ghost use Prim.Native.Nat.{_+_, _^_, _<_};
+ghost use lib.Dec.{eqb};
 ghost use lib.ListN.{length};
 ghost use Rattle.element.specs.Cursors.{ahead};
 ghost use Rattle.encoding.specs.Fields.{Field, Fields};
@@ -16,7 +17,7 @@ pub fn decode(bytes: &[u8]) -> Option<Certificate>
 {
     let mut row = Cursor::new(bytes);
     let permit = row.next()?;
-    if permit.tag != Certificate::PERMIT || row.rest.len() > 0 {
+    if permit.tag != Certificate::PERMIT || !at_end(&row) {
         return None;
     }
     fields(permit.inside())
@@ -34,7 +35,7 @@ fn fields(start: Cursor<'_>) -> Option<Certificate>
     let not_after = number(&mut fields, Certificate::NOT_AFTER)?;
     let may_issue = mark(number(&mut fields, Certificate::MAY_ISSUE)?)?;
     let path_len = number(&mut fields, Certificate::PATH_LEN)?;
-    if fields.rest.len() > 0 {
+    if !at_end(&fields) {
         return None;
     }
     Some(Certificate {
@@ -57,6 +58,13 @@ fn number(fields: &mut Cursor<'_>, tag: u8) -> Option<u32>
         return None;
     }
     Number::read(field.contents)
+}
+
+// Whether nothing is ahead.
+fn at_end(cursor: &Cursor<'_>) -> bool
+    ensures { λ r. ⌜ r ≡ eqb (length (ahead (now (cursor .entry)))) 0 ⌝ }
+{
+    cursor.rest.len() == 0
 }
 
 // What a mark says: 0 no, 1 yes, and nothing else is a mark.

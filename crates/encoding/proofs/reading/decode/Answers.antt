@@ -1,8 +1,7 @@
-use mathlib.Core.Path.{sym, ap, subst, _∙_}
-use native.Mathlib.Omega.{arith}
+use mathlib.Core.Path.{sym, _∙_}
 use Rattle.encoding.proofs.Wholes.{no-element, other-tag, one-behind, whole}
 use Rattle.encoding.proofs.reading.decode.Needs as need
-use Rattle.encoding.proofs.reading.decode.Needs.{then-permit·by·then-permit, then-permit·by·else-permit·then-row-gt0}
+use Rattle.encoding.proofs.reading.decode.Needs.{then-permit·by·then-permit, then-permit·by·else-permit·then-not-at-end}
 
 pub returns-in-Break-permit : need.returns-in-Break-permit
 returns-in-Break-permit c =
@@ -12,8 +11,8 @@ pub returns-then-permit : need.returns-then-permit
 returns-then-permit c =
     let passes = c .in-Continue-permit .ensures tt .steps in
     let start = c .new-row .ensures .rest in
-    elim (c .then-permit .came) [ then-permit·by·then-permit w ↦ other-tag _ _ _ _ start passes (w .if-permit .taken) | then-permit·by·else-permit·then-row-gt0 w ↦ one-behind _ _ _ _ start passes (w .if-row-gt0 .taken) ]
+    elim (c .then-permit .came) [ then-permit·by·then-permit w ↦ other-tag _ _ _ _ start passes (w .if-permit .taken) | then-permit·by·else-permit·then-not-at-end w ↦ one-behind _ _ _ _ start passes (sym (w .at-end .ensures) ∙ w .if-not-at-end .taken) ]
 
 pub returns : need.returns
 returns c =
-    whole _ _ _ _ (c .new-row .ensures .rest) (c .in-Continue-permit .ensures tt .steps) (c .if-permit .left) (c .if-row-gt0 .left) (c .inside .result) (c .inside .ensures .rest) (c .fields .result) (c .fields .ensures)
+    whole _ _ _ _ (c .new-row .ensures .rest) (c .in-Continue-permit .ensures tt .steps) (c .if-permit .left) (sym (c .at-end .ensures) ∙ c .if-not-at-end .left) (c .inside .result) (c .inside .ensures .rest) (c .fields .result) (c .fields .ensures)

@@ -24,8 +24,11 @@ returns-in-Break-may-issue c = rw (c .from-residual-in-Break-may-issue .ensures)
 pub returns-in-Break-path-len : need.returns-in-Break-path-len
 returns-in-Break-path-len c = rw (c .from-residual-in-Break-path-len .ensures) (left-none 5 (omega arith) (left-5 (c .in-Continue-subject .ensures tt) (c .in-Continue-issuer .ensures tt) (c .in-Continue-not-before .ensures tt) (c .in-Continue-not-after .ensures tt) (c .in-Continue-number .ensures tt)) (c .in-Break-path-len .ensures tt))
 
-pub returns-then-fields-gt0 : need.returns-then-fields-gt0
-returns-then-fields-gt0 c = more-behind (c .in-Continue-subject .ensures tt) (c .in-Continue-issuer .ensures tt) (c .in-Continue-not-before .ensures tt) (c .in-Continue-not-after .ensures tt) (c .in-Continue-number .ensures tt) (c .in-Continue-path-len .ensures tt) (c .if-fields-gt0 .taken)
+pub returns-then-not-at-end : need.returns-then-not-at-end
+returns-then-not-at-end c = more-behind (c .in-Continue-subject .ensures tt) (c .in-Continue-issuer .ensures tt) (c .in-Continue-not-before .ensures tt) (c .in-Continue-not-after .ensures tt) (c .in-Continue-number .ensures tt) (c .in-Continue-path-len .ensures tt) (sym (c .at-end .ensures) ∙ c .if-not-at-end .taken)
 
 pub returns : need.returns
-returns c = fields-are _ ∙ six-fields (c .in-Continue-subject .ensures tt) (c .in-Continue-issuer .ensures tt) (c .in-Continue-not-before .ensures tt) (c .in-Continue-not-after .ensures tt) (c .in-Continue-number .ensures tt) (c .in-Continue-path-len .ensures tt) (c .if-fields-gt0 .left) (c .in-Continue-may-issue .may-issue) (c .in-Continue-may-issue .ensures tt)
+returns c = (
+  record { subject = c .in-Continue-subject .ensures tt .range; issuer = c .in-Continue-issuer .ensures tt .range; not-before = c .in-Continue-not-before .ensures tt .range; not-after = c .in-Continue-not-after .ensures tt .range; path-len = c .in-Continue-path-len .ensures tt .range },
+  fields-are _ ∙ six-fields (c .in-Continue-subject .ensures tt) (c .in-Continue-issuer .ensures tt) (c .in-Continue-not-before .ensures tt) (c .in-Continue-not-after .ensures tt) (c .in-Continue-number .ensures tt) (c .in-Continue-path-len .ensures tt) (sym (c .at-end .ensures) ∙ c .if-not-at-end .left) (c .in-Continue-may-issue .may-issue) (c .in-Continue-may-issue .ensures tt),
+)

@@ -1,7 +1,5 @@
-use mathlib.Core.Path.{sym, subst}
 use native.Mathlib.Omega.{arith}
 use Rattle.encoding.specs.Numbers.{number-bytes}
-use Rattle.encoding.specs.Fields.{Field}
 use Rattle.encoding.proofs.Digits.{few-bytes}
 use Rattle.encoding.proofs.Tails.{field-read, field-other}
 use Rattle.encoding.proofs.reading.number.Needs as need
