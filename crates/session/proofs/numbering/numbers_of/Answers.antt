@@ -24,7 +24,7 @@ pub returns-in-rest : need.returns-in-rest
 returns-in-rest c = numbered-end _ _ _ _ (turn (need.at·returns-in-rest c .After-deref)) (λ x p. c .in-rest .ensures tt x (p .range) (p .is))
 
 pub loop-paper-again : need.loop-paper-again
-loop-paper-again c = numbered-more _ _ _ _ _ _ (turn (need.at·loop-paper-again c .After-deref)) (record { range = record { subject = omega arith; issuer = omega arith; not-before = omega arith; not-after = omega arith; path-len = omega arith }; is = c .in-Some .ensures tt }) (c .in-Continue-push-six .ensures tt)
+loop-paper-again c = numbered-more _ _ _ _ _ _ (turn (need.at·loop-paper-again c .After-deref)) (record { range = c .in-Some .ensures tt .0; is = c .in-Some .ensures tt .1 }) (c .in-Continue-push-six .ensures tt)
 
 pub returns : need.returns
 returns c = numbered-all _ _ _ (c .loop-paper .inv) (ap (map vec-items) (drop-all (c .loop-paper .paper-index) (c .args .papers .now) (omega arith)))
