@@ -14,19 +14,21 @@ const HELP: &str = "permit [FILE]
 
 Reads a text from FILE or standard input, all of it first, and answers its lines in their order.
 
-  paper HEX..      a permit's bytes: its elements, one a line, each level two blanks further in,
-                   or `ill at K` with the place from which no bytes could mend it
-  seals M M ..     marks, 1 where paper a may vouch for paper b by its seal, row by row: no answer
-  trusted M M ..   marks, 1 for each paper of a trusted authority: no answer
+  paper HEX..      the bytes of a permit; its elements, one a line and two blanks further in for
+                   each level, or `ill at K`: from byte K on nothing could mend it
+  seals M M ..     marks, for each paper a row: 1 where its seal under a paper is right
+  trusted M M ..   marks, one for each paper: 1 if its authority is trusted
   piece P W W ..   the element of paper P by the path W W .., or `none`
   chain A day D    the papers of a shortest chain from A to a trusted one on day D, or `none`
-  # ..             a comment, as a blank line: no answer
 
-Papers, elements and lines are counted from 0. All papers and marks count for every chain, wherever
-they stand. What is not taken is answered by `refused N at PLACE`:
-  1  no paper, more than 200 or one that is no permit       3  no such paper
-  2  not a seal mark for each two papers, not a trusted     5  a line that can't be read
-     mark for each paper, or a mark above 1
+Marks have no answer, nor has a blank line or one with `#` first. Papers, elements and lines are
+counted from 0. All papers and marks count for every chain, wherever they stand in the text.
+What can't be answered is refused, `refused N at PLACE`:
+
+  1  there is no paper, there are more than 200, or one is no permit
+  2  the seals are not one for each two papers, the trusted not one for each, or a mark is above 1
+  3  there is no such paper
+  5  the line can't be read, and is left out
 ";
 
 // What the command line asks for.

@@ -5,7 +5,7 @@ use mathlib.Core.List.{List, [], _∷_, _++_, append-assoc, append-nil}
 use Prim.Native.Nat.{ℕ, _+_, _≤_, _<_}
 use native.Mathlib.Omega.{arith}
 use lib.Dec.{leb}
-use lib.ListN.{length}
+use lib.ListN.{length, length-append}
 use Rattle.format.specs.Elements.{Row, empty, primitive, constructed, framed, written, Reads}
 use Rattle.format.proofs.Fronts.{Front, same-front}
 use Rattle.format.proofs.Rows.{primitive-parts, constructed-parts, framed-size}
@@ -67,22 +67,26 @@ printed-all level start old items c u p e d row h =
     let none : left ≡ empty = stop d longest (ahead c) left reads (front-of (ahead c) (e .1)) in
     sym (same ∙ ap (λ l. items ++ row-text level l) none ∙ append-nil items)
 
+split-at : {c : Cursor} {x : Element} {u : Cursor} → Passes c x u → ahead c ≡ framed (x .tag) (x .contents .now) ++ ahead u
+split-at {c} {x} {u} s = s .front ∙ ap (λ l. l ++ ahead u) (s .whole)
+
+-- the contents and what is left are shorter
+pub shorter : {c : Cursor} {x : Element} {u : Cursor} → Passes c x u → 2 + length (x .contents .now) + length (ahead u) ≤ length (ahead c)
+shorter {c} {x} {u} s = omega (arith, framed-size (x .tag) (x .contents .now) (ahead u), ap length (split-at s))
+
+-- the contents end where the element ends, and that is no further than where the row ends
+pub ends-within : {c : Cursor} {x : Element} {u : Cursor} → Passes c x u → x .«contents_at» + length (x .contents .now) ≤ c .at + length (ahead c)
+ends-within {c} {x} {u} s = omega (arith, s .within, s .place, ap length (s .front), length-append (x .whole .now) (ahead u))
+
 module _ (level : ℕ) (start old was : List ℕ) (c : Cursor) (x : Element) (u : Cursor) (p : Printed level start old was (ahead c)) (s : Passes c x u) where
-  split-at : ahead c ≡ framed (x .tag) (x .contents .now) ++ ahead u
-  split-at = s .front ∙ ap (λ l. l ++ ahead u) (s .whole)
-
-  -- the contents and what is left are shorter
-  pub shorter : 2 + length (x .contents .now) + length (ahead u) ≤ length (ahead c)
-  shorter = omega (arith, framed-size (x .tag) (x .contents .now) (ahead u), ap length split-at)
-
   -- a primitive element is printed
   pub printed-plain : (new : List ℕ) → x .tag < 128 → new ≡ was ++ element-text level (x .tag) (x .contents .now) (leb 128 (x .tag)) → Printed level start old new (ahead u)
   printed-plain new low is = let e : new ≡ was ++ element-text level (x .tag) (x .contents .now) false = is ∙ ap (λ b. was ++ element-text level (x .tag) (x .contents .now) b) (lt-leb 128 (x .tag) low) in record {
     front = begins-more old was new (p .front) (_, e);
-    less = omega (arith, p .less, shorter);
+    less = omega (arith, p .less, shorter s);
     on = λ d row h.
         let (left, reads, same) = p .on d row h in
-        elim (split-text d level (ahead c) left reads (x .tag) (x .contents .now) (ahead u) split-at) [
+        elim (split-text d level (ahead c) left reads (x .tag) (x .contents .now) (ahead u) (split-at s)) [
           | plain low′ behind r text ↦ (behind, r, same ∙ ap (λ l. was ++ l) text ∙ sym (append-assoc was (element-text level (x .tag) (x .contents .now) false) (row-text level behind)) ∙ ap (λ l. l ++ row-text level behind) (sym e))
           | nested high less q rq behind r text ↦ absurd (omega arith)
         ];
@@ -92,10 +96,10 @@ module _ (level : ℕ) (start old was : List ℕ) (c : Cursor) (x : Element) (u 
   pub printed-nested : (mid new : List ℕ) → 128 ≤ x .tag → mid ≡ was ++ element-text level (x .tag) (x .contents .now) (leb 128 (x .tag)) → Begins mid new → ((d : ℕ) (row : Row) → Reads d longest (x .contents .now) row → new ≡ mid ++ row-text (level + 1) row) → Printed level start old new (ahead u)
   printed-nested mid new high is begins inner = let e : mid ≡ was ++ element-text level (x .tag) (x .contents .now) true = is ∙ ap (λ b. was ++ element-text level (x .tag) (x .contents .now) b) (le-leb 128 (x .tag) high) in record {
     front = begins-more old was new (p .front) (begins-more was mid new (_, e) begins);
-    less = omega (arith, p .less, shorter);
+    less = omega (arith, p .less, shorter s);
     on = λ d row h.
         let (left, reads, same) = p .on d row h in
-        elim (split-text d level (ahead c) left reads (x .tag) (x .contents .now) (ahead u) split-at) [
+        elim (split-text d level (ahead c) left reads (x .tag) (x .contents .now) (ahead u) (split-at s)) [
           | plain low behind r text ↦ absurd (omega arith)
           | nested high′ less q rq behind r text ↦
               let own = element-text level (x .tag) (x .contents .now) true in

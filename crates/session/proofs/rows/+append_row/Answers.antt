@@ -1,10 +1,10 @@
 use mathlib.Core.Path.{refl, ap, subst, sym}
 use native.Mathlib.Omega.{arith}
-use lib.ListN.{length, length-append}
+use lib.ListN.{length}
 use Rattle.format.specs.Elements.{Reads}
 use Rattle.element.specs.Cursors.{ahead}
 use Rattle.element.specs.Judged.{longest}
-use Rattle.session.proofs.Showing.{begins-more, not-ok, printed-all, printed-plain, printed-nested, shorter}
+use Rattle.session.proofs.Showing.{begins-more, not-ok, printed-all, printed-plain, printed-nested, shorter, ends-within}
 use Rattle.session.proofs.rows.+append_row.Needs as need
 
 pub returns-in-Break-append-element : need.returns-in-Break-append-element
@@ -15,12 +15,13 @@ returns-in-Break-append-element t c = record {
 
 pub append-row-requires : need.append-row-requires
 append-row-requires t c κs =
-    let i = c .loop-element .inv .2 in
+    let i = c .loop-element .inv in
     let s = c .in-Some .ensures tt .steps in
-    let l = shorter _ _ _ _ _ _ _ i s in
+    let l = shorter s in
+    let near = ends-within s in
     let start = ap (λ u. length (ahead u)) (c .into-iter-element-iterator .ensures .becomes) in
     let inner = ap length (c .inside .ensures .rest) in
-    (omega arith, (omega (arith, c .loop-element .inv .0, s .within, s .place, ap length (s .front), length-append (c .in-Some .element .whole .now) (ahead (c .next .last .self)), c .inside .ensures .place), omega arith))
+    (omega (arith, i .2 .less), (omega (arith, i .0, c .inside .ensures .place), omega (arith, i .2 .less)))
 
 pub loop-element-again : need.loop-element-again
 loop-element-again t c =
