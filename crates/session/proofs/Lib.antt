@@ -1,0 +1,4 @@
+pub mod Showing
+pub mod Bringing
+pub mod Putting
+pub mod Chaining
