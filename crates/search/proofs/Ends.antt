@@ -1,5 +1,5 @@
 -- How the search starts and what it writes in the end. Assumes nothing.
-use mathlib.Core.Path.{_≡_, sym, ap, _∙_, subst, subst₂}
+use mathlib.Core.Path.{_≡_, ap, _∙_, subst}
 use mathlib.Core.Bool.{true}
 use mathlib.Core.List.{List}
 use mathlib.Core.Logic.{⊎-elim}
@@ -26,11 +26,10 @@ blank-zero : (n a : ℕ) → getD (blank n) a 0 ≡ 0
 unfolding blank
 blank-zero n a = ⊎-elim (λ l. getD-replicate n a 0 0 l) (λ l. getD-past (blank n) a 0 (omega (arith, blank-long n))) (cases-lt a n)
 
-pub started : (p : Pool) (day first n : ℕ) (far from : List ℕ) → far ≡ set (replicate n 0) first 1 → from ≡ replicate n 0 → first < p .count → holds (p .certificate first) day ≡ true → p .count ≤ n → Layers p day first far from 0 0 0 0
+pub started : (p : Pool) (day first n : ℕ) (far from order : List ℕ) (size over : ℕ) → far ≡ set (replicate n 0) first 1 → from ≡ replicate n 0 → order ≡ set (replicate n 0) 0 first → size ≡ 1 → over ≡ 0 → first < p .count → holds (p .certificate first) day ≡ true → p .count ≤ n → Layers p day first far from order size over 0
 unfolding blank
-started p day first n far from e f known valid few =
-    subst₂ (λ u v. Layers p day first u v 0 0 0 0) (sym e) (sym f)
-    (begun p day first (blank n) (blank n) known valid (omega (arith, blank-long n)) (omega (arith, blank-long n)) (blank-zero n) (blank-zero n))
+started p day first n far from order size over e f o s v known valid few =
+    rw (e, f, o, s, v) (begun p day first (blank n) (blank n) (blank n) known (omega (arith, blank-long n)) (omega (arith, blank-long n)) valid (omega (arith, blank-long n)) (blank-zero n) (blank-zero n))
 
 -- a chain that is laid out is written
 pub written : (p : Pool) (day first : ℕ) (far from : List ℕ) (k a m : ℕ) (old new : List ℕ) → Top p day first far from k a → m ≡ k + 1 → length old ≡ p .count → LaidOut from a (m - 1) old new → Written p day first m old new

@@ -16,15 +16,16 @@ use Rattle.search.specs.declared.reached.Reached.{Reached}
 abbrev pub follows-known : Pool → (day k a b : ℕ) → Bool
 follows-known p day k a b = issues-known p b a && (leb k (p .certificate b .path-len) && holds (p .certificate b) day)
 
--- what has been reached answers the query up to the turn of y above x in layer k, with no trust anchor in the first layers, as many as clear
-abbrev pub Kept : Query → Reached → (clear k x y : ℕ) → Type 0
-Kept q r clear k x y = Layers (view-pool (q .view)) (q .day) (q .first) (r .far) (r .from) clear k x y
+-- what has been reached answers the query up to the turn of y above the next one
+abbrev pub Kept : Query → Reached → (y : ℕ) → Type 0
+Kept q r y = Layers (view-pool (q .view)) (q .day) (q .first) (r .far) (r .from) (r .order) (r .size) (r .over) y
 
--- a is a trust anchor that was reached in layer k
-pub record Anchor-in (q : Query) (r : Reached) (k a : ℕ) : Type 0 where
-  pub known : a < view-pool (q .view) .count
-  pub layer : getD (r .far) a 0 ≡ k + 1
-  pub anchored : view-pool (q .view) .anchor a ≡ true
+-- the next one to have its turn is x, at place i, in layer k
+pub record Next (r : Reached) (i k x : ℕ) : Type 0 where
+  pub turn : r .over ≡ i
+  pub within : i < r .size
+  pub here : getD (r .order) i 0 ≡ x
+  pub layer : getD (r .far) x 0 ≡ k + 1
 
 -- a is a trust anchor in layer k, and no layer before that has one
 abbrev pub Topped : Query → Reached → (k a : ℕ) → Type 0

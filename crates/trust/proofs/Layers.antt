@@ -3,16 +3,20 @@ use mathlib.Core.Path.{_≡_, sym, ap, _∙_, subst}
 use mathlib.Core.Bool.{true, false}
 use mathlib.Core.List.{List}
 use mathlib.Core.Logic.{_⊎_, inl, inr, ⊎-elim}
-use Prim.Native.Nat.{ℕ, _+_, _-_, _≤_, _<_}
+use Prim.Native.Nat.{ℕ, _+_, _≤_, _<_}
 use native.Mathlib.Omega.{arith}
 use lib.ListN.{length, getD, set, length-set}
 use Rattle.std.proofs.shelf.Lists.{getD-set-same, getD-set-other}
 use Rattle.std.proofs.shelf.Tests.{both-ways, cases-eq, cases-lt}
 use Rattle.trust.specs.Chains.{Pool, holds}
-use Rattle.trust.specs.Layers.{follows, Before, Parent, Layers}
+use Rattle.trust.specs.Layers.{follows, Before, Parent, Tree, Placed, Order, Turns, Layers, Explored}
+use Rattle.trust.proofs.Numbers.{fewer}
 
 -- what stands at a once v was written at i
-written : (xs : List ℕ) (i v a : ℕ) → i < length xs → ((a ≡ i) × (getD (set xs i v) a 0 ≡ v)) ⊎ ((a ≡ i → ⊥) × (getD (set xs i v) a 0 ≡ getD xs a 0))
+abbrev Written : (xs : List ℕ) (i v a : ℕ) → Type 0
+Written xs i v a = ((a ≡ i) × (getD (set xs i v) a 0 ≡ v)) ⊎ ((a ≡ i → ⊥) × (getD (set xs i v) a 0 ≡ getD xs a 0))
+
+written : (xs : List ℕ) (i v a : ℕ) → i < length xs → Written xs i v a
 written xs i v a l =
     ⊎-elim
     (λ e. inl (e, ap (λ j. getD (set xs i v) j 0) e ∙ getD-set-same xs i v 0 l))
@@ -20,47 +24,67 @@ written xs i v a l =
     (cases-eq a i)
 
 -- at first only the certificate asked about is reached
-pub begun : (p : Pool) (day first : ℕ) (far from : List ℕ) → first < p .count → holds (p .certificate first) day ≡ true → p .count ≤ length far → p .count ≤ length from → ((a : ℕ) → getD far a 0 ≡ 0) → ((a : ℕ) → getD from a 0 ≡ 0) → Layers p day first (set far first 1) from 0 0 0 0
-begun p day first far from known valid room from-room none zeros =
-    record {
+module _ (p : Pool) (day first : ℕ) (far from order : List ℕ) (known : first < p .count) (room : p .count ≤ length far) (order-room : p .count ≤ length order) where
+  at-first : (a : ℕ) → Written far first 1 a
+  at-first a = written far first 1 a (omega arith)
+
+  head : (j : ℕ) → j < 1 → getD (set order 0 first) j 0 ≡ first
+  head j l = let e : j ≡ 0 = omega arith in ap (λ i. getD (set order 0 first) i 0) e ∙ getD-set-same order 0 first 0 (omega arith)
+
+  head-layer : (j : ℕ) → j < 1 → getD (set far first 1) (getD (set order 0 first) j 0) 0 ≡ 1
+  head-layer j l = ap (λ a. getD (set far first 1) a 0) (head j l) ∙ getD-set-same far first 1 0 (omega arith)
+
+  pub begun : holds (p .certificate first) day ≡ true → p .count ≤ length from → ((a : ℕ) → getD far a 0 ≡ 0) → ((a : ℕ) → getD from a 0 ≡ 0) → Layers p day first (set far first 1) from (set order 0 first) 1 0 0
+  begun valid from-room none zeros = record {
+    tree = record {
       known = known;
       valid = valid;
       room = omega (arith, length-set far first 1);
       from-room = from-room;
       below = λ a. omega (arith, zeros a);
       start = getD-set-same far first 1 0 (omega arith);
-      only = λ a l e. ⊎-elim (λ w. w .0) (λ w. absurd (omega (arith, none a, w .1))) (at a);
-      high = λ a l. ⊎-elim (λ w. omega (arith, w .1)) (λ w. omega (arith, none a, w .1)) (at a);
-      parent = λ m b l e. absurd (⊎-elim (λ w. omega (arith, w .1)) (λ w. omega (arith, none b, w .1)) (at b));
-      past = λ m a b la lb e o f. absurd (omega arith);
-      cleared = λ a l s t. absurd (omega arith);
-    }
-  where
-    at : (a : ℕ) → ((a ≡ first) × (getD (set far first 1) a 0 ≡ 1)) ⊎ ((a ≡ first → ⊥) × (getD (set far first 1) a 0 ≡ getD far a 0))
-    at a = written far first 1 a (omega arith)
+      only = λ a l e. ⊎-elim (λ w. w .0) (λ w. absurd (omega (arith, none a, w .1))) (at-first a);
+      parent = λ m b l e. absurd (⊎-elim (λ w. omega (arith, w .1)) (λ w. omega (arith, none b, w .1)) (at-first b));
+    };
+    queue = record {
+      room = omega (arith, length-set order 0 first);
+      few = omega arith;
+      listed = λ j l. omega (arith, head j l);
+      reached = λ j l. omega (arith, head-layer j l);
+      low = λ j l. omega (arith, head-layer j l);
+      rising = λ i j l m. omega (arith, head-layer i (omega arith), head-layer j m);
+      once = λ i j l m e. omega arith;
+      placed = λ a l s. ⊎-elim
+          (λ w. record { place = 0; within = omega arith; here = head 0 (omega arith) ∙ sym (w .0) })
+          (λ w. absurd (omega (arith, none a, w .1)))
+          (at-first a);
+    };
+    turns = record {
+      near = λ j l m. omega (arith, head-layer j l);
+      past = λ m j b l lb e o f. absurd (omega arith);
+      cleared = λ j l. absurd (omega arith);
+    };
+  }
 
--- y is reached from x
-pub reached : (p : Pool) (day first : ℕ) (far from : List ℕ) (c k x y : ℕ) → Layers p day first far from c k x y → c ≤ k + 1 → x < p .count → y < p .count → getD far x 0 ≡ k + 1 → getD far y 0 ≡ 0 → true ≡ follows p day k x y → Layers p day first (set far y (k + 2)) (set from y x) c k x (y + 1)
-reached p day first far from c k x y h lc lx ly ex ey f =
-    record {
-      known = h .known;
-      valid = h .valid;
-      room = omega (arith, length-set far y (k + 2), h .room);
-      from-room = omega (arith, length-set from y x, h .from-room);
-      below = λ a. ⊎-elim (λ w. omega (arith, w .1)) (λ w. omega (arith, w .1, h .below a)) (under a);
-      start = stays first 0 (h .start);
-      only = λ a l e. ⊎-elim (λ w. absurd (omega (arith, w .1))) (λ w. h .only a l (sym (w .1) ∙ e)) (at a);
-      high = λ a l. ⊎-elim (λ w. omega (arith, w .1)) (λ w. omega (arith, w .1, h .high a l)) (at a);
-      parent = λ m b l e. ⊎-elim (λ w. new m b w e) (λ w. old m b (w .0) (h .parent m b l (sym (w .1) ∙ e))) (at b);
-      past = λ m a b la lb e o g. ⊎-elim (λ w. absurd (omega (arith, w .1))) (λ w. after m a b la lb (sym (w .1) ∙ e) o g (at b)) (at a);
-      cleared = λ a l s t. ⊎-elim (λ w. absurd (omega (arith, w .1))) (λ w. h .cleared a l (omega (arith, w .1)) (omega (arith, w .1))) (at a);
-    }
-  where
-    at : (a : ℕ) → ((a ≡ y) × (getD (set far y (k + 2)) a 0 ≡ k + 2)) ⊎ ((a ≡ y → ⊥) × (getD (set far y (k + 2)) a 0 ≡ getD far a 0))
-    at a = written far y (k + 2) a (omega (arith, h .room))
+-- the turn of y above x, which stands at place over in layer k
+module _ (p : Pool) (day first : ℕ) (far from order : List ℕ) (size over k x y : ℕ) (h : Layers p day first far from order size over y) (has : over < size) (here : getD order over 0 ≡ x) (ex : getD far x 0 ≡ k + 1) (ly : y < p .count) where
+  layer : getD far (getD order over 0) 0 ≡ k + 1
+  layer = ap (λ a. getD far a 0) here ∙ ex
 
-    under : (a : ℕ) → ((a ≡ y) × (getD (set from y x) a 0 ≡ x)) ⊎ ((a ≡ y → ⊥) × (getD (set from y x) a 0 ≡ getD from a 0))
-    under a = written from y x a (omega (arith, h .from-room))
+  pub at-hand : x < p .count
+  at-hand = omega (arith, here, h .queue .listed over has)
+
+  -- no layer is higher than those reached are many
+  pub lower : k < size
+  lower = omega (arith, layer, h .queue .low over has)
+
+  -- y is reached
+  module _ (ey : getD far y 0 ≡ 0) (f : true ≡ follows p day k x y) where
+    at : (a : ℕ) → Written far y (k + 2) a
+    at a = written far y (k + 2) a (omega (arith, h .tree .room))
+
+    under : (a : ℕ) → Written from y x a
+    under a = written from y x a (omega (arith, h .tree .from-room))
 
     -- what was reached before stays where it is
     stays : (a m : ℕ) → getD far a 0 ≡ m + 1 → getD (set far y (k + 2)) a 0 ≡ m + 1
@@ -80,84 +104,138 @@ reached p day first far from c k x y h lc lx ly ex ey f =
         let u : getD from b 0 ≡ getD (set from y x) b 0 = ⊎-elim (λ v. absurd (n (v .0))) (λ v. sym (v .1)) (under b) in
         record { layer = subst (λ j. getD (set far y (k + 2)) j 0 ≡ m + 1) u (stays (getD from b 0) m (r .layer)); follow = subst (λ j. follows p day m j b ≡ true) u (r .follow) }
 
-    after : (m a b : ℕ) → a < p .count → b < p .count → getD far a 0 ≡ m + 1 → Before m a b k x (y + 1) → follows p day m a b ≡ true → ((b ≡ y) × (getD (set far y (k + 2)) b 0 ≡ k + 2)) ⊎ ((b ≡ y → ⊥) × (getD (set far y (k + 2)) b 0 ≡ getD far b 0)) → (0 < getD (set far y (k + 2)) b 0) × (getD (set far y (k + 2)) b 0 ≤ m + 2)
-    after m a b la lb e o g (inl w) =
+    tree : Tree p day first (set far y (k + 2)) (set from y x)
+    tree = record {
+      known = h .tree .known;
+      valid = h .tree .valid;
+      room = omega (arith, length-set far y (k + 2), h .tree .room);
+      from-room = omega (arith, length-set from y x, h .tree .from-room);
+      below = λ a. ⊎-elim (λ w. omega (arith, w .1, h .queue .listed over has)) (λ w. omega (arith, w .1, h .tree .below a)) (under a);
+      start = stays first 0 (h .tree .start);
+      only = λ a l e. ⊎-elim (λ w. absurd (omega (arith, w .1))) (λ w. h .tree .only a l (sym (w .1) ∙ e)) (at a);
+      parent = λ m b l e. ⊎-elim (λ w. new m b w e) (λ w. old m b (w .0) (h .tree .parent m b l (sym (w .1) ∙ e))) (at b);
+    }
+
+    fresh : (j : ℕ) → j < size → getD order j 0 ≡ y → ⊥
+    fresh j l e = omega (arith, h .queue .reached j l, ap (λ a. getD far a 0) e)
+
+    -- there is room for one more
+    pub fits : size < p .count
+    fits = fewer size (p .count) (λ j. getD order j 0) y (h .queue .listed) ly (h .queue .once) fresh
+
+    same : (j : ℕ) → j < size → getD (set order size y) j 0 ≡ getD order j 0
+    same j l = getD-set-other order size j y 0 (λ e. omega arith)
+
+    same-layer : (j : ℕ) → j < size → getD (set far y (k + 2)) (getD (set order size y) j 0) 0 ≡ getD far (getD order j 0) 0
+    same-layer j l = ap (λ a. getD (set far y (k + 2)) a 0) (same j l) ∙ getD-set-other far y (getD order j 0) (k + 2) 0 (fresh j l)
+
+    last : (j : ℕ) → j ≡ size → getD (set order size y) j 0 ≡ y
+    last j e = ap (λ i. getD (set order size y) i 0) e ∙ getD-set-same order size y 0 (omega (arith, fits, h .queue .room))
+
+    last-layer : (j : ℕ) → j ≡ size → getD (set far y (k + 2)) (getD (set order size y) j 0) 0 ≡ k + 2
+    last-layer j e = ap (λ a. getD (set far y (k + 2)) a 0) (last j e) ∙ getD-set-same far y (k + 2) 0 (omega (arith, h .tree .room))
+
+    place : (j : ℕ) → j < size + 1 → (j < size) ⊎ (j ≡ size)
+    place j l = ⊎-elim inl (λ m. inr (omega arith)) (cases-lt j size)
+
+    queue : Order p (set far y (k + 2)) (set order size y) (size + 1)
+    queue = record {
+      room = omega (arith, length-set order size y, h .queue .room);
+      few = omega (arith, fits);
+      listed = λ j l. ⊎-elim (λ u. omega (arith, same j u, h .queue .listed j u)) (λ u. omega (arith, last j u)) (place j l);
+      reached = λ j l. ⊎-elim (λ u. omega (arith, same-layer j u, h .queue .reached j u)) (λ u. omega (arith, last-layer j u)) (place j l);
+      low = λ j l. ⊎-elim (λ u. omega (arith, same-layer j u, h .queue .low j u)) (λ u. omega (arith, last-layer j u, layer, h .queue .low over has)) (place j l);
+      rising = λ i j l m. ⊎-elim
+          (λ u. omega (arith, same-layer i (omega arith), same-layer j u, h .queue .rising i j l u))
+          (λ u. ⊎-elim (λ v. omega (arith, same-layer i v, last-layer j u, layer, h .turns .near i v has)) (λ v. omega (arith, last-layer i v, last-layer j u)) (place i (omega arith)))
+          (place j m);
+      once = λ i j l m e. ⊎-elim
+          (λ u. h .queue .once i j l u (sym (same i (omega arith)) ∙ e ∙ same j u))
+          (λ u. fresh i (omega arith) (sym (same i (omega arith)) ∙ e ∙ last j u))
+          (place j m);
+      placed = λ a l s. ⊎-elim
+          (λ w. record { place = size; within = omega arith; here = last size (λ i. size) ∙ sym (w .0) })
+          (λ w. let q = h .queue .placed a l (omega (arith, w .1)) in record { place = q .place; within = omega (arith, q .within); here = same (q .place) (q .within) ∙ q .here })
+          (at a);
+    }
+
+    past : (m j b : ℕ) → j < size → b < p .count → getD far (getD order j 0) 0 ≡ m + 1 → Before j b over (y + 1) → follows p day m (getD order j 0) b ≡ true → Written far y (k + 2) b → (0 < getD (set far y (k + 2)) b 0) × (getD (set far y (k + 2)) b 0 ≤ m + 2)
+    past m j b l lb e o g (inl w) =
         ⊎-elim
-        (λ l. absurd (omega (arith, h .past m a b la lb e (inl l) g .0, ap (λ j. getD far j 0) (w .0))))
-        (λ v. omega (arith, w .1, v .0))
+        (λ u. absurd (omega (arith, h .turns .past m j b l lb e (inl u) g .0, ap (λ a. getD far a 0) (w .0))))
+        (λ u. omega (arith, w .1, layer, ap (λ i. getD far (getD order i 0) 0) (u .0)))
         o
-    after m a b la lb e o g (inr w) =
-        let r = h .past m a b la lb e (⊎-elim inl (λ v. inr (v .0, ⊎-elim inl (λ u. inr (u .0, nearer (w .0) (u .1))) (v .1))) o) g in
+    past m j b l lb e o g (inr w) =
+        let r = h .turns .past m j b l lb e (⊎-elim inl (λ u. inr (u .0, nearer (w .0) (u .1))) o) g in
         omega (arith, w .1, r .0, r .1)
       where
         nearer : (b ≡ y → ⊥) → b < y + 1 → b < y
         nearer n l = omega arith
 
--- the search goes on, with nothing new reached
-on : {p : Pool} {day first : ℕ} {far from : List ℕ} {c k x y : ℕ} → Layers p day first far from c k x y → (d j v w : ℕ) → k ≤ j → ((m a b : ℕ) → a < p .count → b < p .count → getD far a 0 ≡ m + 1 → Before m a b j v w → follows p day m a b ≡ true → Before m a b k x y ⊎ ((0 < getD far b 0) × (getD far b 0 ≤ m + 2))) → ((a : ℕ) → a < p .count → 0 < getD far a 0 → getD far a 0 ≤ d → p .anchor a ≡ false) → Layers p day first far from d j v w
-on h d j v w l past cleared =
-    record {
-      known = h .known;
-      valid = h .valid;
-      room = h .room;
-      from-room = h .from-room;
-      below = h .below;
-      start = h .start;
-      only = h .only;
-      parent = h .parent;
-      high = λ a q. omega (arith, h .high a q);
-      past = λ m a b la lb e o f. ⊎-elim (λ u. h .past m a b la lb e u f) (λ u. u) (past m a b la lb e o f);
-      cleared = cleared;
+    turns : Turns p day (set far y (k + 2)) (set order size y) (size + 1) over (y + 1)
+    turns = record {
+      near = λ j l m. ⊎-elim
+          (λ u. omega (arith, same-layer j u, same-layer over has, h .turns .near j u has))
+          (λ u. omega (arith, last-layer j u, same-layer over has, layer))
+          (place j l);
+      past = λ m j b l lb e o g.
+          let u : j < size = omega arith in
+          past m j b u lb (sym (same-layer j u) ∙ e) o (subst (λ a. follows p day m a b ≡ true) (same j u) g) (at b);
+      cleared = λ j l. ap (λ a. p .anchor a) (same j (omega arith)) ∙ h .turns .cleared j l;
     }
 
-module _ (p : Pool) (day first : ℕ) (far from : List ℕ) (c k x : ℕ) where
+    pub pushed : Layers p day first (set far y (k + 2)) (set from y x) (set order size y) (size + 1) over (y + 1)
+    pushed = record { tree = tree; queue = queue; turns = turns }
+
   -- y is not reached from x: it was reached before, or can't follow
-  pub passed : (y : ℕ) → Layers p day first far from c k x y → y < p .count → (0 < getD far y 0) ⊎ (follows p day k x y ≡ false) → Layers p day first far from c k x (y + 1)
-  passed y h ly o = on h c k x (y + 1) (omega arith) (λ m a b la lb e u f. ⊎-elim (λ l. inl (inl l)) (λ v. ⊎-elim (λ l. inl (inr (v .0, inl l))) (λ w. here m a b (v .0) (w .0) (w .1) f (cases-eq b y)) (v .1)) u) (h .cleared)
+  pub passed : (0 < getD far y 0) ⊎ (follows p day k x y ≡ false) → Layers p day first far from order size over (y + 1)
+  passed o = record {
+    tree = h .tree;
+    queue = h .queue;
+    turns = record { near = h .turns .near; cleared = h .turns .cleared; past = λ m j b l lb e u g. ⊎-elim (λ v. h .turns .past m j b l lb e (inl v) g) (λ v. at-over m j b l lb e (v .0) (v .1) g (cases-eq b y)) u };
+  }
     where
-      now : (m a b : ℕ) → m ≡ k → a ≡ x → b ≡ y → follows p day m a b ≡ true → (0 < getD far y 0) ⊎ (follows p day k x y ≡ false) → (0 < getD far b 0) × (getD far b 0 ≤ m + 2)
-      now m a b em ea eb f (inl l) = omega (arith, h .high y ly, ap (λ j. getD far j 0) eb)
-      now m a b em ea eb f (inr n) = absurd (both-ways (follows p day m a b) (rw (em, ea, eb) n) f)
+      now : (m j b : ℕ) → b < p .count → m ≡ k → j ≡ over → b ≡ y → follows p day m (getD order j 0) b ≡ true → (0 < getD far y 0) ⊎ (follows p day k x y ≡ false) → (0 < getD far b 0) × (getD far b 0 ≤ m + 2)
+      now m j b lb em ej eb g (inl s) =
+          let c = ap (λ a. getD far a 0) eb in
+          let q = h .queue .placed b lb (omega arith) in
+          omega (arith, c, layer, h .turns .near (q .place) (q .within) has, ap (λ a. getD far a 0) (q .here))
+      now m j b lb em ej eb g (inr n) = absurd (both-ways (follows p day m (getD order j 0) b) (rw (em, ej, eb, here) n) g)
 
-      here : (m a b : ℕ) → m ≡ k → a ≡ x → b < y + 1 → follows p day m a b ≡ true → (b ≡ y) ⊎ (b ≡ y → ⊥) → Before m a b k x y ⊎ ((0 < getD far b 0) × (getD far b 0 ≤ m + 2))
-      here m a b em ea l f (inl e) = inr (now m a b em ea e f o)
-      here m a b em ea l f (inr n) = inl (inr (em, inr (ea, omega arith)))
+      at-over : (m j b : ℕ) → j < size → b < p .count → getD far (getD order j 0) 0 ≡ m + 1 → j ≡ over → b < y + 1 → follows p day m (getD order j 0) b ≡ true → (b ≡ y) ⊎ (b ≡ y → ⊥) → (0 < getD far b 0) × (getD far b 0 ≤ m + 2)
+      at-over m j b l lb e ej lt g (inl q) = now m j b lb (omega (arith, layer, ap (λ i. getD far (getD order i 0) 0) ej)) ej q g o
+      at-over m j b l lb e ej lt g (inr n) = h .turns .past m j b l lb e (inr (ej, omega arith)) g
 
-  -- x has had its turn
-  pub turned : Layers p day first far from c k x (p .count) → Layers p day first far from c k (x + 1) 0
-  turned h = on h c k (x + 1) 0 (omega arith) (λ m a b la lb e o f. inl (⊎-elim inl (λ v. inr (v .0, ⊎-elim (λ l. at a b lb l (cases-eq a x)) (λ w. absurd (omega (arith, w .1))) (v .1))) o)) (h .cleared)
-    where
-      at : (a b : ℕ) → b < p .count → a < x + 1 → (a ≡ x) ⊎ (a ≡ x → ⊥) → (a < x) ⊎ ((a ≡ x) × (b < p .count))
-      at a b lb l (inl e) = inr (e, lb)
-      at a b lb l (inr n) = inl (omega arith)
+module _ (p : Pool) (day first : ℕ) (far from order : List ℕ) (size over : ℕ) where
+  -- the one at place over has had its turn, and is no trust anchor
+  pub turned : (x : ℕ) → Layers p day first far from order size over (p .count) → over < size → getD order over 0 ≡ x → p .anchor x ≡ false → Layers p day first far from order size (over + 1) 0
+  turned x h has here no-anchor = record {
+    tree = h .tree;
+    queue = h .queue;
+    turns = record {
+      near = λ j l m. omega (arith, h .turns .near j l has, h .queue .rising over (over + 1) (omega arith) m);
+      past = λ m j b l lb e o g. h .turns .past m j b l lb e (⊎-elim (λ u. ⊎-elim inl (λ v. inr (omega arith, lb)) (cases-lt j over)) (λ u. absurd (omega (arith, u .1))) o) g;
+      cleared = λ j l. ⊎-elim (λ e. ap (λ i. p .anchor (getD order i 0)) e ∙ ap (λ a. p .anchor a) here ∙ no-anchor) (λ n. h .turns .cleared j (omega arith)) (cases-eq j over);
+    };
+  }
 
-  -- x has no turn in this layer
-  pub skipped : Layers p day first far from c k x 0 → (getD far x 0 ≡ k + 1 → ⊥) → Layers p day first far from c k (x + 1) 0
-  skipped h n = on h c k (x + 1) 0 (omega arith) (λ m a b la lb e o f. inl (⊎-elim inl (λ v. inr (v .0, ⊎-elim (λ l. inl (other m a e (v .0) l (cases-eq a x))) (λ w. absurd (omega (arith, w .1))) (v .1))) o)) (h .cleared)
-    where
-      other : (m a : ℕ) → getD far a 0 ≡ m + 1 → m ≡ k → a < x + 1 → (a ≡ x) ⊎ (a ≡ x → ⊥) → a < x
-      other m a e q l (inl r) = absurd (n (sym (ap (λ j. getD far j 0) r) ∙ e ∙ ap (λ j. j + 1) q))
-      other m a e q l (inr r) = omega arith
+  -- below a limit that only those have which had their turn, all is explored
+  explored : Layers p day first far from order size over 0 → (limit : ℕ) → ((j : ℕ) → j < size → getD far (getD order j 0) 0 < limit → j < over) → Explored p day far limit
+  explored h limit done = record {
+    closed = λ m a b la lb e l f.
+        let q = h .queue .placed a la (omega arith) in
+        let c = ap (λ i. getD far i 0) (q .here) in
+        h .turns .past m (q .place) b (q .within) lb (c ∙ e) (inl (done (q .place) (q .within) (omega arith))) (subst (λ i. follows p day m i b ≡ true) (sym (q .here)) f);
+    clear = λ a la s l.
+        let q = h .queue .placed a la s in
+        let c = ap (λ i. getD far i 0) (q .here) in
+        ap (λ i. p .anchor i) (sym (q .here)) ∙ h .turns .cleared (q .place) (done (q .place) (q .within) (omega arith));
+  }
 
-module _ (p : Pool) (day first : ℕ) (far from : List ℕ) (c k : ℕ) where
-  -- the layer is over
-  pub next-layer : Layers p day first far from c k (p .count) 0 → Layers p day first far from c (k + 1) 0 0
-  next-layer h = on h c (k + 1) 0 0 (omega arith) (λ m a b la lb e o f. inl (⊎-elim (λ l. at m a b la l (cases-lt m k)) (λ v. absurd (omega arith)) o)) (h .cleared)
-    where
-      at : (m a b : ℕ) → a < p .count → m < k + 1 → (m < k) ⊎ (k ≤ m) → Before m a b k (p .count) 0
-      at m a b la l (inl u) = inl u
-      at m a b la l (inr u) = inr (omega arith, inl la)
+  -- all layers below that of the next one are explored
+  pub explored-below : (k x : ℕ) → Layers p day first far from order size over 0 → over < size → getD order over 0 ≡ x → getD far x 0 ≡ k + 1 → Explored p day far (k + 1)
+  explored-below k x h has here e = explored h (k + 1) (λ j l m. ⊎-elim (λ u. u) (λ u. absurd (omega (arith, h .queue .rising over j u l, ap (λ a. getD far a 0) here))) (cases-lt j over))
 
-  -- a layer with nothing in it: no later layer has anything
-  pub emptied : Layers p day first far from c k (p .count) 0 → k ≤ c → ((a : ℕ) → a < p .count → getD far a 0 ≡ k + 1 → ⊥) → (j : ℕ) → k ≤ j → Layers p day first far from j j 0 0
-  emptied h q n j l = on h j j 0 0 l (λ m a b la lb e o f. inl (inl (low a la m e))) (λ a la s t. h .cleared a la s (omega (arith, low a la (getD far a 0 - 1) (omega arith))))
-    where
-      low : (a : ℕ) → a < p .count → (m : ℕ) → getD far a 0 ≡ m + 1 → m < k
-      low a la m e =
-          ⊎-elim (λ u. u)
-          (λ u. absurd (⊎-elim (λ v. n a la (e ∙ ap (λ i. i + 1) v)) (λ v. n (getD from a 0) (h .below a) (h .parent k a la (omega (arith, h .high a la)) .layer)) (cases-eq m k)))
-          (cases-lt m k)
-
--- a layer with no trust anchor
-pub clearer : (p : Pool) (day first : ℕ) (far from : List ℕ) (k : ℕ) → Layers p day first far from k k 0 0 → ((a : ℕ) → a < p .count → getD far a 0 ≡ k + 1 → p .anchor a ≡ false) → Layers p day first far from (k + 1) k 0 0
-clearer p day first far from k h n = on h (k + 1) k 0 0 (omega arith) (λ m a b la lb e o f. inl o) (λ a la s t. ⊎-elim (λ e. n a la e) (λ e. h .cleared a la s (omega arith)) (cases-eq (getD far a 0) (k + 1)))
+  -- all that were reached have had their turns
+  pub explored-all : Layers p day first far from order size over 0 → size ≤ over → (limit : ℕ) → Explored p day far limit
+  explored-all h l limit = explored h limit (λ j m u. omega arith)

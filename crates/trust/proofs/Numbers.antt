@@ -4,8 +4,8 @@ use mathlib.Core.Bool.{cond}
 use mathlib.Core.Logic.{_⊎_, _≢_, inl, inr, ⊎-elim}
 use Prim.Native.Nat.{ℕ, zero, suc, _≤_, _<_}
 use native.Mathlib.Omega.{arith}
-use lib.Dec.{eqb}
-use Rattle.std.proofs.shelf.Tests.{cases-eq, cases-order, eq-eqb, ne-eqb, cond-true, cond-false}
+use lib.Dec.{eqb, ltb}
+use Rattle.std.proofs.shelf.Tests.{cases-eq, cases-lt, cases-order, eq-eqb, ne-eqb, lt-ltb, le-ltb, cond-true, cond-false}
 
 -- whether some number below n has the property
 pub some-below : (P : ℕ → Type 0) → ((b : ℕ) → Dec (P b)) → (n : ℕ) → Dec ((b : ℕ) × (b < n) × P b)
@@ -93,3 +93,25 @@ twice (suc n) (suc m) f below less = go (λ h k. twice n m h k (omega arith)) (s
     go : ((h : ℕ → ℕ) → ((i : ℕ) → i < m → h i < n) → Twice m h) → Dec ((i : ℕ) × (i < m) × (f i ≡ f m)) → Twice (suc m) f
     go fewer (yes s) = record { i = s .0; j = m; before = s .1; within = omega arith; same = s .2 }
     go fewer (no s) = let other : (i : ℕ) → i < m → f i ≡ f m → ⊥ = λ i l e. s (i, l, e) in back other (fewer g (fits other))
+
+-- different values below m, n of them, and one more such value: they are fewer than m
+pub fewer : (n m : ℕ) (f : ℕ → ℕ) (y : ℕ) → ((i : ℕ) → i < n → f i < m) → y < m → ((i j : ℕ) → i < j → j < n → f i ≡ f j → ⊥) → ((i : ℕ) → i < n → f i ≡ y → ⊥) → n < m
+fewer n m f y below one once other = ⊎-elim (λ l. l) (λ l. absurd (again (twice m (suc n) g within (omega arith)))) (cases-lt n m)
+  where
+    g : ℕ → ℕ
+    g i = cond (ltb i n) (f i) y
+
+    front : (i : ℕ) → i < n → g i ≡ f i
+    front i l = cond-true _ _ _ (lt-ltb i n l)
+
+    back : (i : ℕ) → n ≤ i → g i ≡ y
+    back i l = cond-false _ _ _ (le-ltb i n l)
+
+    within : (i : ℕ) → i < suc n → g i < m
+    within i l = ⊎-elim (λ u. omega (arith, front i u, below i u)) (λ u. omega (arith, back i u)) (cases-lt i n)
+
+    again : Twice (suc n) g → ⊥
+    again t =
+        let l : t .i < n = omega arith in
+        let e = sym (front (t .i) l) ∙ t .same in
+        ⊎-elim (λ u. once (t .i) (t .j) (t .before) u (e ∙ front (t .j) u)) (λ u. other (t .i) l (e ∙ back (t .j) u)) (cases-lt (t .j) n)

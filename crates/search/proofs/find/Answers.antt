@@ -10,12 +10,12 @@ pub returns-then-not-holds : need.returns-then-not-holds
 returns-then-not-holds c = (refl, not-held _ _ _ (sym (c .if-not-holds .ensures tt)))
 
 pub climb-requires : need.climb-requires
-climb-requires c κs = started _ _ _ most _ _ (c .begin-reached .ensures .far) (c .begin-reached .ensures .from) (c .args .asked .now .known) (sym (c .if-not-holds .ensures tt)) (c .args .asked .now .view .few)
+climb-requires c κs = started _ _ _ most _ _ _ _ _ (c .begin-reached .ensures .far) (c .begin-reached .ensures .from) (c .begin-reached .ensures .order) (c .begin-reached .ensures .size) (c .begin-reached .ensures .over) (c .args .asked .now .known) (sym (c .if-not-holds .ensures tt)) (c .args .asked .now .view .few)
 
 pub lay-out-requires : need.lay-out-requires
 lay-out-requires c κs =
     let top = c .in-Continue-top .ensures tt in
-    (omega (arith, top .1 .known, c .args .asked .now .view .few), omega (arith, top .1 .layer, top .1 .few, c .pre), λ a. omega (arith, top .1 .layers .below a, c .args .asked .now .view .few))
+    (omega (arith, top .1 .known, c .args .asked .now .view .few), omega (arith, top .1 .layer, top .1 .few, c .pre), λ a. omega (arith, top .1 .tree .below a, c .args .asked .now .view .few))
 
 pub returns : need.returns
 returns c =

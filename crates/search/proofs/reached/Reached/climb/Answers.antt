@@ -1,22 +1,29 @@
+use mathlib.Core.Path.{_≡_, refl, sym}
+use Prim.Native.Nat.{ℕ, _+_, _-_}
 use native.Mathlib.Omega.{arith}
-use Rattle.trust.proofs.Layers.{next-layer, emptied, clearer}
+use lib.ListN.{getD}
+use Rattle.trust.proofs.Layers.{explored-below, explored-all}
 use Rattle.trust.proofs.Found.{no-chain}
 use Rattle.search.proofs.reached.Reached.climb.Needs as need
 
-pub returns-in-Some : need.returns-in-Some
-returns-in-Some c =
-    let found = c .in-Some .ensures tt in
-    (c .loop-k .k, record { layers = c .loop-k .inv; known = found .known; layer = found .layer; few = omega arith; anchored = found .anchored })
-
-pub spread-requires : need.spread-requires
-spread-requires c κs = (omega arith, clearer _ _ _ _ _ _ (c .loop-k .inv) (c .in-rest .ensures tt))
-
-pub returns-then-not-spread : need.returns-then-not-spread
-returns-then-not-spread c =
-    no-chain _ _ _ _ _ _ (emptied _ _ _ _ _ _ _ (c .spread .ensures .kept) (omega arith) (c .spread .ensures .empty (c .if-not-spread .taken)) (c .args .asked .now .view .count) (omega arith)) (omega arith)
-
-pub loop-k-again : need.loop-k-again
-loop-k-again c = next-layer _ _ _ _ _ _ _ (c .spread .ensures .kept)
+pub returns-then-is-anchor : need.returns-then-is-anchor
+returns-then-is-anchor c =
+    let h = c .loop-self .inv in
+    let i = c .loop-self .self .over in
+    let x = getD (c .loop-self .self .order) i 0 in
+    let has = c .loop-self-test .taken in
+    let k : ℕ = getD (c .loop-self .self .far) x 0 - 1 in
+    let e : getD (c .loop-self .self .far) x 0 ≡ k + 1 = omega (arith, h .queue .reached i has) in (
+      k,
+      record {
+        tree = h .tree;
+        explored = explored-below _ _ _ _ _ _ _ _ k x h has refl e;
+        known = h .queue .listed i has;
+        layer = e;
+        few = omega (arith, h .queue .low i has, h .queue .few);
+        anchored = sym (c .if-is-anchor .ensures tt);
+      },
+    )
 
 pub returns : need.returns
-returns c = no-chain _ _ _ _ _ _ (c .loop-k .inv) (omega arith)
+returns c = no-chain _ _ _ _ _ (c .loop-self .inv .tree) (explored-all _ _ _ _ _ _ _ _ (c .loop-self .inv) (c .loop-self-test .left))
