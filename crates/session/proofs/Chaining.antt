@@ -13,7 +13,7 @@ use Rattle.search.specs.Answers as search
 use Rattle.search.specs.Places.{Place}
 use Rattle.search.specs.declared.Answer.{Answer}
 use Rattle.search.specs.declared.Answer.the-variants.{Chain as Found, NoChain, Rejected}
-use Rattle.text.specs.Texts.{chain-text, none-text, refusal-text}
+use Rattle.message.specs.Texts.{chain-text, none-text, refusal-text}
 use Rattle.session.specs.Books.{Brought}
 use Rattle.session.specs.Answers.{lent, Chain-answer, shortest, none, refused}
 

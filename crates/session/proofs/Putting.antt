@@ -6,7 +6,7 @@ use Prim.Native.Nat.{ℕ}
 use Rattle.std.specs.Results.{isOk}
 use Rattle.std.specs.declared.result.Result.{Result}
 use Rattle.std.specs.declared.result.Result.the-variants.{Ok, Err}
-use Rattle.text.specs.Texts.{Begins, Appends}
+use Rattle.message.specs.Texts.{Begins, Appends}
 use Rattle.session.specs.Answers.{Puts}
 
 module _ {T E : Type 0} (A : List ℕ → Type 0) (r : Result T E) (old text new : List ℕ) where

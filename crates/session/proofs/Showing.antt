@@ -20,7 +20,7 @@ use Rattle.std.specs.declared.option.Option.the-variants.{None}
 use Rattle.std.specs.declared.result.Result.{Result}
 use Rattle.std.specs.declared.result.Result.the-variants.{Ok, Err}
 use Rattle.std.proofs.shelf.Tests.{false≢true, le-leb, lt-leb}
-use Rattle.text.specs.Texts.{element-text, Begins}
+use Rattle.message.specs.Texts.{element-text, Begins}
 use Rattle.session.specs.Rows.{row-text}
 
 -- the text of a row whose bytes begin with a primitive element, or with a constructed one

@@ -19,7 +19,7 @@ use Rattle.certificate.specs.declared.Rejection.the-variants.{Unknown, Line}
 use Rattle.search.specs.Answers.{rejected-by}
 use Rattle.search.specs.Places.{Place}
 use Rattle.text.specs.Meaning.{Says, nothing, paper, seals, trusted, piece, chain}
-use Rattle.text.specs.Texts.{bytes-text, chain-text, none-text, ill-text, refusal-text, Begins}
+use Rattle.message.specs.Texts.{bytes-text, chain-text, none-text, ill-text, refusal-text, Begins}
 use Rattle.session.specs.Books.{Brought}
 use Rattle.session.specs.Rows.{row-text}
 

@@ -9,13 +9,13 @@ ghost use Rattle.std.specs.Results.{isOk};
 ghost use Rattle.format.specs.Elements.{Row, Reads};
 ghost use Rattle.element.specs.Cursors.{ahead};
 ghost use Rattle.element.specs.Judged.{longest};
-ghost use Rattle.text.specs.Texts.{Begins};
+ghost use Rattle.message.specs.Texts.{Begins};
 ghost use Rattle.session.specs.Rows.{row-text};
 use element::Cursor;
 use element::CursorIterator;
 use element::Reader;
+use message::append_element;
 use std::alloc::AllocError;
-use text::append_element;
 
 // The elements ahead, one a line, and those within each below it and one level further in.
 pub(crate) fn append_row(

@@ -16,7 +16,7 @@ use Rattle.std.proofs.shelf.Tests.{le-leb, lt-leb, lt-ltb, le-ltb, ne-eqb, and-
 use Rattle.text.specs.Pieces.{blank, words}
 use Rattle.text.specs.Figures.{both, digit, with-digit, decimal-after, below, hex-digit, word-bytes, bytes-of}
 use Rattle.text.specs.Meaning.{number-limit}
-use Rattle.text.specs.Texts.{blank-before, hex-text, spaced}
+use Rattle.message.specs.Texts.{blank-before, hex-text, spaced}
 use Rattle.text.specs.Promise.{Word-ends, Bytes, Figures-stand}
 use Rattle.text.proofs.Cuts.{words-nil}
 use Rattle.text.proofs.Laws.{past-blank, word-in-front}

@@ -10,7 +10,7 @@ use Rattle.std.specs.declared.option.Option.the-variants.{Some}
 use Rattle.text.specs.Pieces.{blank, line-end, words, lines}
 use Rattle.text.specs.Figures.{number, bytes-of}
 use Rattle.text.specs.Meaning.{number-limit}
-use Rattle.text.specs.Texts.{hex-text, spaced}
+use Rattle.message.specs.Texts.{hex-text, spaced}
 
 -- every byte passes a test, or none does
 abbrev pub Every : (ℕ → Bool) → Bool → List ℕ → Type 0

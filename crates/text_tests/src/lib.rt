@@ -1,17 +1,17 @@
 // Tests of the crate `text`.
 #[cfg(test)]
 mod tests {
+    use message::append_bytes;
+    use message::append_chain;
+    use message::append_element;
+    use message::append_ill;
+    use message::append_none;
+    use message::append_refusal;
     use std::alloc::AllocError;
     use std::alloc::Global;
     use std::test::*;
     use text::Command;
     use text::Lines;
-    use text::append_bytes;
-    use text::append_chain;
-    use text::append_element;
-    use text::append_ill;
-    use text::append_none;
-    use text::append_refusal;
     use text::read_line;
 
     // A command in words.

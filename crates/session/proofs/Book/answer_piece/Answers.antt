@@ -5,7 +5,7 @@ use lib.ListN.{getD}
 use Rattle.std.proofs.shelf.Lists.{getD-map}
 use Rattle.std.specs.Of.Vec.{vec-items}
 use Rattle.element.specs.Located.{Piece}
-use Rattle.text.specs.Texts.{refusal-text}
+use Rattle.message.specs.Texts.{refusal-text}
 use Rattle.session.specs.Answers.{Piece-answer, there, no-paper}
 use Rattle.session.specs.Books.{held}
 use Rattle.session.proofs.Chaining.{papers-count}

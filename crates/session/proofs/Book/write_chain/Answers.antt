@@ -8,7 +8,7 @@ use Rattle.search.specs.Answers as search
 use Rattle.search.specs.Places.{Place}
 use Rattle.search.specs.declared.Answer.{Answer}
 use Rattle.search.specs.declared.Answer.the-variants.{Chain as Found, NoChain, Rejected}
-use Rattle.text.specs.Texts.{chain-text, refusal-text}
+use Rattle.message.specs.Texts.{chain-text, refusal-text}
 use Rattle.session.specs.Answers.{Chain-answer}
 use Rattle.session.specs.Books.{held}
 use Rattle.session.proofs.Chaining.{renamed, papers-count, chain-found, chain-none, chain-refused}
