@@ -22,7 +22,7 @@ impl Number {
     const THREE_BYTES_END: u32 = 16_777_216;
 
     // The number that the bytes are, if they are one's.
-    pub fn read(bytes: &[u8]) -> Option<u32>
+    pub(crate) fn read(bytes: &[u8]) -> Option<u32>
         ensures { λ r. ⌜ Numbered (now (bytes .entry)) r ⌝ }
     {
         if Number::numeric(bytes) {
@@ -33,7 +33,7 @@ impl Number {
     }
 
     // How few bytes a number can be.
-    pub fn size(value: u32) -> usize
+    pub(crate) fn size(value: u32) -> usize
         ensures { λ r. ⌜ r ≡ number-size value ⌝ }
     {
         if value < Number::ONE_BYTE_END {
@@ -49,7 +49,7 @@ impl Number {
     }
 
     // All four bytes of a number, the higher first.
-    pub fn bytes(value: u32) -> [u8; 4]
+    pub(crate) fn bytes(value: u32) -> [u8; 4]
         ensures { λ r. ⌜ r ≡ four-bytes value ⌝ }
     {
         value.to_be_bytes()

@@ -50,7 +50,7 @@ impl Place {
     const TWO_BYTES_LEAST: usize = 260;
 
     // The place behind one more byte, in a row with so much room in which so many levels may open.
-    pub fn next(self, room: usize, levels: usize, byte: u8) -> Place
+    pub(crate) fn next(self, room: usize, levels: usize, byte: u8) -> Place
         ensures { λ r. ⌜ r ≡ next-place room levels self byte ⌝ }
     {
         match self {

@@ -6,7 +6,7 @@ ghost use Rattle.search.specs.LaidOut.{LaidOut};
 use certificate::MOST;
 
 // Writes top at place last, below it the one that it was reached from, and so on down to place 0.
-pub fn lay_out(from: &[u8; MOST], top: usize, last: usize, out: &mut [u16])
+pub(crate) fn lay_out(from: &[u8; MOST], top: usize, last: usize, out: &mut [u16])
     requires { ⌜ top < most ⌝ }
     requires { ⌜ last < length (now out) ⌝ }
     requires { ⌜ ((a : ℕ) → getD (now from) a 0 < most) ⌝ }

@@ -34,7 +34,7 @@ fn push_digit(n: u64, b: u8) -> Option<u64>
 }
 
 // The number that a word writes in base ten.
-pub fn parse_number(word: &[u8]) -> Option<u64>
+pub(crate) fn parse_number(word: &[u8]) -> Option<u64>
     ensures { λ r. ⌜ r ≡ number number-limit (now (word .entry)) ⌝ }
 {
     if word.len() == 0 {
@@ -48,7 +48,7 @@ pub fn parse_number(word: &[u8]) -> Option<u64>
 }
 
 // A mark: a number below 256.
-pub fn parse_mark(word: &[u8]) -> Option<u8>
+pub(crate) fn parse_mark(word: &[u8]) -> Option<u8>
     ensures { λ r. ⌜ r ≡ number mark-limit (now (word .entry)) ⌝ }
 {
     let n = parse_number(word)?;
@@ -92,7 +92,7 @@ fn push_bytes(out: &mut Vec<u8>, word: &[u8]) -> Result<bool, AllocError>
 }
 
 // The bytes that all words left write.
-pub fn read_bytes(heap: Global, mut words: Words<'_>) -> Result<Option<Vec<u8>>, AllocError>
+pub(crate) fn read_bytes(heap: Global, mut words: Words<'_>) -> Result<Option<Vec<u8>>, AllocError>
     ensures { λ r. ⌜ made r (λ o. mapped vec-items o ≡ bytes-of (words-of (now (words .entry .rest)))) ⌝ }
 {
     let mut out = Vec::new(heap);
@@ -105,7 +105,7 @@ pub fn read_bytes(heap: Global, mut words: Words<'_>) -> Result<Option<Vec<u8>>,
 }
 
 // The marks that all words left write.
-pub fn read_marks(heap: Global, mut words: Words<'_>) -> Result<Option<Vec<u8>>, AllocError>
+pub(crate) fn read_marks(heap: Global, mut words: Words<'_>) -> Result<Option<Vec<u8>>, AllocError>
     ensures { λ r. ⌜ made r (λ o. mapped vec-items o ≡ numbers mark-limit (words-of (now (words .entry .rest)))) ⌝ }
 {
     let mut out = Vec::new(heap);
@@ -119,7 +119,10 @@ pub fn read_marks(heap: Global, mut words: Words<'_>) -> Result<Option<Vec<u8>>,
 }
 
 // The numbers that all words left write.
-pub fn read_numbers(heap: Global, mut words: Words<'_>) -> Result<Option<Vec<u64>>, AllocError>
+pub(crate) fn read_numbers(
+    heap: Global,
+    mut words: Words<'_>,
+) -> Result<Option<Vec<u64>>, AllocError>
     ensures { λ r. ⌜ made r (λ o. mapped vec-items o ≡ numbers number-limit (words-of (now (words .entry .rest)))) ⌝ }
 {
     let mut out = Vec::new(heap);

@@ -83,14 +83,14 @@ fn first_line<'a>(text: &'a [u8]) -> Option<(&'a [u8], &'a [u8])>
 
 impl<'a> Words<'a> {
     // All words of a line.
-    pub fn new(line: &'a [u8]) -> Words<'a>
+    pub(crate) fn new(line: &'a [u8]) -> Words<'a>
         ensures { λ r. ⌜ now (r .rest) ≡ now (line .entry) ⌝ }
     {
         Words { rest: line }
     }
 
     // The next word.
-    pub fn next(&mut self) -> Option<&'a [u8]>
+    pub(crate) fn next(&mut self) -> Option<&'a [u8]>
         ensures { λ r. ⌜ BySome r (Ended words (now (now (self .entry) .rest)) (now (now (self .exit) .rest))) (λ w. Handed words (now (now (self .entry) .rest)) (now w) (now (now (self .exit) .rest))) ⌝ }
     {
         while self.rest.len() > 0 {

@@ -8,7 +8,7 @@ use chain::issues;
 
 impl Query<'_> {
     // Whether b can stand next above a, below which k certificates stand.
-    pub fn follows(&self, k: usize, a: usize, b: usize) -> bool
+    pub(crate) fn follows(&self, k: usize, a: usize, b: usize) -> bool
         requires { ⌜ b < view-pool (now self .view) .count ⌝ }
         ensures { λ r. ⌜ r ≡ follows-known (view-pool (now (self .entry) .view)) (now (self .entry) .day) k a b ⌝ }
     {

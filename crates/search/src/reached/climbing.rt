@@ -13,7 +13,7 @@ use certificate::MOST;
 
 impl Reached {
     // Only the first certificate is reached.
-    pub fn begin(first: usize) -> Reached
+    pub(crate) fn begin(first: usize) -> Reached
         requires { ⌜ first < most ⌝ }
         ensures far { λ r. ⌜ r .far ≡ set (replicate most 0) first 1 ⌝ }
         ensures from { λ r. ⌜ r .from ≡ replicate most 0 ⌝ }
@@ -65,7 +65,7 @@ impl Reached {
     }
 
     // The trust anchor of a shortest chain, if there is a chain.
-    pub fn climb(&mut self, asked: &Query) -> Option<usize>
+    pub(crate) fn climb(&mut self, asked: &Query) -> Option<usize>
         requires { ⌜ Kept (now asked) (now self) 0 ⌝ }
         ensures { λ r. ⌜ Cases r (None-up (now (asked .entry))) (λ a. (k : ℕ) × Topped (now (asked .entry)) (now (self .exit)) k a) ⌝ }
     {
