@@ -148,6 +148,42 @@ fn read_row(b: &[u8], room: Option<usize>, depth: usize) -> Reading {
     }
 }
 
+// Bytes that fill a row of so many: elements of two bytes, and one of three where the number is odd.
+fn filling(room: usize) -> Vec<u8> {
+    let odd = if room % 2 == 1 { vec![1, 1, 7] } else { Vec::new() };
+    [odd.clone(), [1, 0].repeat((room - odd.len()) / 2)].concat()
+}
+
+// Bytes behind which these are a row, for bytes that are no row but could become one.
+fn completion(b: &[u8], room: Option<usize>, depth: usize) -> Vec<u8> {
+    let mut at = 0;
+    loop {
+        let left = room.map(|r| r - at);
+        if at >= b.len() {
+            return filling(left.unwrap_or(0));
+        }
+        let constructed = b[at] >= 128;
+        let head = &b[at + 1..b.len().min(at + 4)];
+        let fits = |n: usize| {
+            let size = 1 + written_length(n).len() + n;
+            !(constructed && n == 1) && left.is_none_or(|l| size <= l && l - size != 1)
+        };
+        let known = (0..=65_535).find(|&n| head.starts_with(&written_length(n)));
+        let chosen = known.or_else(|| (0..=65_535).find(|&n| written_length(n).starts_with(head) && fits(n)));
+        let n = chosen.expect("the bytes are viable");
+        let start = at + 1 + written_length(n).len();
+        if b.len() >= start + n {
+            at = start + n;
+            continue;
+        }
+        let mut more = written_length(n)[head.len().min(start - at - 1)..].to_vec();
+        let within = &b[start.min(b.len())..];
+        more.extend(if constructed { completion(within, Some(n), depth - 1) } else { vec![7; n - within.len()] });
+        more.extend(filling(left.map_or(0, |l| l - (start + n - at))));
+        return more;
+    }
+}
+
 fn plain_judge(b: &[u8]) -> u64 {
     for k in 0..b.len() {
         if matches!(read_row(&b[..k + 1], None, 8), Reading::Dead) {
@@ -225,6 +261,18 @@ fn try_bytes(t: &mut Trials, b: &[u8]) {
     t.check("judge", got, plain_judge(b), &b);
 }
 
+// Before the place where bytes are malformed, some bytes behind them make them a row.
+fn try_completions(t: &mut Trials, b: &[u8]) {
+    let ill = unsafe { judge(b.as_ptr(), b.len()) };
+    if ill == 0 {
+        return;
+    }
+    for k in 0..ill as usize {
+        let whole = [&b[..k], &completion(&b[..k], None, 8)].concat();
+        t.check("completed", unsafe { judge(whole.as_ptr(), whole.len()) }, 0, &(&b[..k], &whole));
+    }
+}
+
 fn try_paths(t: &mut Trials, b: &[u8]) {
     for _ in 0..4 {
         let path: Vec<u64> = (0..t.below(4)).map(|_| if t.one_in(9) { t.next() } else { t.below(3) }).collect();
@@ -250,6 +298,7 @@ fn bytes(t: &mut Trials) {
     for _ in 0..300 {
         let b: Vec<u8> = (0..t.below(12)).map(|_| [t.below(256), t.below(8), 128 + t.below(4)][t.below(3) as usize] as u8).collect();
         try_bytes(t, &b);
+        try_completions(t, &b);
         try_paths(t, &b);
     }
     for i in 0..150 {
