@@ -9,7 +9,7 @@ use lib.ListN.{length, getD, set, length-set}
 use Rattle.std.proofs.shelf.Lists.{getD-set-same, getD-set-other}
 use Rattle.std.proofs.shelf.Tests.{both-ways, cases-eq, cases-lt}
 use Rattle.trust.specs.Chains.{Pool, holds}
-use Rattle.trust.specs.Layers.{follows, Before, Parent, Tree, Placed, Order, Turns, Layers, Explored}
+use Rattle.trust.specs.Layers.{follows, Before, Parent, Tree, Order, Turns, Layers, Explored}
 use Rattle.trust.proofs.Numbers.{fewer}
 
 -- what stands at a once v was written at i
@@ -66,6 +66,22 @@ module _ (p : Pool) (day first : ℕ) (far from order : List ℕ) (known : first
     };
   }
 
+module _ (p : Pool) (far order : List ℕ) (size : ℕ) (h : Order p far order size) where
+  fresh : (y : ℕ) → getD far y 0 ≡ 0 → (j : ℕ) → j < size → getD order j 0 ≡ y → ⊥
+  fresh y z j l e = omega (arith, h .reached j l, ap (λ a. getD far a 0) e)
+
+  -- while one is not reached, there is room for one more
+  pub fits : (y : ℕ) → y < p .count → getD far y 0 ≡ 0 → size < p .count
+  fits y l z = fewer size (p .count) (λ j. getD order j 0) y (h .listed) l (h .once) (fresh y z)
+
+  -- where as many were reached as there are, each was
+  all-reached : p .count ≤ size → (b : ℕ) → b < p .count → 0 < getD far b 0
+  all-reached full b l = ⊎-elim (λ z. absurd (omega (arith, fits b l z))) (λ z. omega arith) (cases-eq (getD far b 0) 0)
+
+  -- what was reached is at most one layer above that of the next one
+  close : {day over y : ℕ} → Turns p day far order size over y → over < size → (b : ℕ) → b < p .count → 0 < getD far b 0 → getD far b 0 ≤ getD far (getD order over 0) 0 + 1
+  close t has b l s = let q = h .placed b l s in omega (arith, t .near (q .place) (q .within) has, ap (λ a. getD far a 0) (q .here))
+
 -- the turn of y above x, which stands at place over in layer k
 module _ (p : Pool) (day first : ℕ) (far from order : List ℕ) (size over k x y : ℕ) (h : Layers p day first far from order size over y) (has : over < size) (here : getD order over 0 ≡ x) (ex : getD far x 0 ≡ k + 1) (ly : y < p .count) where
   layer : getD far (getD order over 0) 0 ≡ k + 1
@@ -116,21 +132,14 @@ module _ (p : Pool) (day first : ℕ) (far from order : List ℕ) (size over k x
       parent = λ m b l e. ⊎-elim (λ w. new m b w e) (λ w. old m b (w .0) (h .tree .parent m b l (sym (w .1) ∙ e))) (at b);
     }
 
-    fresh : (j : ℕ) → j < size → getD order j 0 ≡ y → ⊥
-    fresh j l e = omega (arith, h .queue .reached j l, ap (λ a. getD far a 0) e)
-
-    -- there is room for one more
-    pub fits : size < p .count
-    fits = fewer size (p .count) (λ j. getD order j 0) y (h .queue .listed) ly (h .queue .once) fresh
-
     same : (j : ℕ) → j < size → getD (set order size y) j 0 ≡ getD order j 0
     same j l = getD-set-other order size j y 0 (λ e. omega arith)
 
     same-layer : (j : ℕ) → j < size → getD (set far y (k + 2)) (getD (set order size y) j 0) 0 ≡ getD far (getD order j 0) 0
-    same-layer j l = ap (λ a. getD (set far y (k + 2)) a 0) (same j l) ∙ getD-set-other far y (getD order j 0) (k + 2) 0 (fresh j l)
+    same-layer j l = ap (λ a. getD (set far y (k + 2)) a 0) (same j l) ∙ getD-set-other far y (getD order j 0) (k + 2) 0 (fresh p far order size (h .queue) y ey j l)
 
     last : (j : ℕ) → j ≡ size → getD (set order size y) j 0 ≡ y
-    last j e = ap (λ i. getD (set order size y) i 0) e ∙ getD-set-same order size y 0 (omega (arith, fits, h .queue .room))
+    last j e = ap (λ i. getD (set order size y) i 0) e ∙ getD-set-same order size y 0 (omega (arith, fits p far order size (h .queue) y ly ey, h .queue .room))
 
     last-layer : (j : ℕ) → j ≡ size → getD (set far y (k + 2)) (getD (set order size y) j 0) 0 ≡ k + 2
     last-layer j e = ap (λ a. getD (set far y (k + 2)) a 0) (last j e) ∙ getD-set-same far y (k + 2) 0 (omega (arith, h .tree .room))
@@ -141,7 +150,7 @@ module _ (p : Pool) (day first : ℕ) (far from order : List ℕ) (size over k x
     queue : Order p (set far y (k + 2)) (set order size y) (size + 1)
     queue = record {
       room = omega (arith, length-set order size y, h .queue .room);
-      few = omega (arith, fits);
+      few = omega (arith, fits p far order size (h .queue) y ly ey);
       listed = λ j l. ⊎-elim (λ u. omega (arith, same j u, h .queue .listed j u)) (λ u. omega (arith, last j u)) (place j l);
       reached = λ j l. ⊎-elim (λ u. omega (arith, same-layer j u, h .queue .reached j u)) (λ u. omega (arith, last-layer j u)) (place j l);
       low = λ j l. ⊎-elim (λ u. omega (arith, same-layer j u, h .queue .low j u)) (λ u. omega (arith, last-layer j u, layer, h .queue .low over has)) (place j l);
@@ -151,7 +160,7 @@ module _ (p : Pool) (day first : ℕ) (far from order : List ℕ) (size over k x
           (place j m);
       once = λ i j l m e. ⊎-elim
           (λ u. h .queue .once i j l u (sym (same i (omega arith)) ∙ e ∙ same j u))
-          (λ u. fresh i (omega arith) (sym (same i (omega arith)) ∙ e ∙ last j u))
+          (λ u. fresh p far order size (h .queue) y ey i (omega arith) (sym (same i (omega arith)) ∙ e ∙ last j u))
           (place j m);
       placed = λ a l s. ⊎-elim
           (λ w. record { place = size; within = omega arith; here = last size (λ i. size) ∙ sym (w .0) })
@@ -198,8 +207,7 @@ module _ (p : Pool) (day first : ℕ) (far from order : List ℕ) (size over k x
       now : (m j b : ℕ) → b < p .count → m ≡ k → j ≡ over → b ≡ y → follows p day m (getD order j 0) b ≡ true → (0 < getD far y 0) ⊎ (follows p day k x y ≡ false) → (0 < getD far b 0) × (getD far b 0 ≤ m + 2)
       now m j b lb em ej eb g (inl s) =
           let c = ap (λ a. getD far a 0) eb in
-          let q = h .queue .placed b lb (omega arith) in
-          omega (arith, c, layer, h .turns .near (q .place) (q .within) has, ap (λ a. getD far a 0) (q .here))
+          omega (arith, layer, close p far order size (h .queue) (h .turns) has b lb (omega arith))
       now m j b lb em ej eb g (inr n) = absurd (both-ways (follows p day m (getD order j 0) b) (rw (em, ej, eb, here) n) g)
 
       at-over : (m j b : ℕ) → j < size → b < p .count → getD far (getD order j 0) 0 ≡ m + 1 → j ≡ over → b < y + 1 → follows p day m (getD order j 0) b ≡ true → (b ≡ y) ⊎ (b ≡ y → ⊥) → (0 < getD far b 0) × (getD far b 0 ≤ m + 2)
@@ -207,6 +215,21 @@ module _ (p : Pool) (day first : ℕ) (far from order : List ℕ) (size over k x
       at-over m j b l lb e ej lt g (inr n) = h .turns .past m j b l lb e (inr (ej, omega arith)) g
 
 module _ (p : Pool) (day first : ℕ) (far from order : List ℕ) (size over : ℕ) where
+  -- where all are reached, no turn adds any
+  pub full : Layers p day first far from order size over 0 → over < size → p .count ≤ size → Layers p day first far from order size over (p .count)
+  full h has all = record {
+    tree = h .tree;
+    queue = h .queue;
+    turns = record {
+      near = h .turns .near;
+      cleared = h .turns .cleared;
+      past = λ m j b l lb e o g. ⊎-elim
+          (λ u. h .turns .past m j b l lb e (inl u) g)
+          (λ u. let s = all-reached p far order size (h .queue) all b lb in (s, omega (arith, close p far order size (h .queue) (h .turns) has b lb s, ap (λ i. getD far (getD order i 0) 0) (u .0))))
+          o;
+    };
+  }
+
   -- the one at place over has had its turn, and is no trust anchor
   pub turned : (x : ℕ) → Layers p day first far from order size over (p .count) → over < size → getD order over 0 ≡ x → p .anchor x ≡ false → Layers p day first far from order size (over + 1) 0
   turned x h has here no-anchor = record {

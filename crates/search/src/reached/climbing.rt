@@ -50,7 +50,7 @@ impl Reached {
         }
     }
 
-    // The turn of x, the next one and no trust anchor: all that can stand next above it are reached.
+    // The turn of x, the next one and no trust anchor: all that can stand next above it are reached, unless all are already.
     fn turn(&mut self, asked: &Query, k: usize, x: usize)
         requires { ⌜ Next (now self) (now self .over) k x ⌝ }
         requires { ⌜ view-pool (now asked .view) .anchor x ≡ false ⌝ }
@@ -58,6 +58,10 @@ impl Reached {
         ensures over { λ _. ⌜ now (self .exit) .over ≡ now (self .entry) .over + 1 ⌝ }
         ensures kept { λ _. ⌜ Kept (now (asked .entry)) (now (self .exit)) 0 ⌝ }
     {
+        if self.size == asked.view.count() {
+            self.over += 1;
+            return;
+        }
         for y in 0..asked.view.count() {
             self.reach(asked, k, x, y);
         }

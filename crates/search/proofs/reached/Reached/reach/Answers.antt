@@ -5,10 +5,8 @@ use Prim.Native.Nat.{_+_, _<_}
 use native.Mathlib.Omega.{arith}
 use lib.ListN.{getD}
 use Rattle.std.proofs.shelf.Lists.{getD-set-other}
-use Rattle.trust.specs.Layers.{follows}
 use Rattle.trust.proofs.Layers.{at-hand, lower, fits, pushed, passed}
 use Rattle.certificate.specs.Sixes.{most}
-use Rattle.certificate.specs.Views.{view-pool}
 use Rattle.search.proofs.Follows.{known}
 use Rattle.search.proofs.reached.Reached.reach.Needs as need
 use Rattle.search.proofs.reached.Reached.reach.Needs.{else-self-y-eq0·by·then-self-y-eq0·else-follows, else-self-y-eq0·by·else-self-y-eq0}
@@ -16,9 +14,7 @@ use Rattle.search.proofs.reached.Reached.reach.Needs.{else-self-y-eq0·by·the
 -- there is room for one more, and its layer is a byte
 room : (c : need.Then-follows) → (c .args .self .now .size < most) × (c .args .k < c .args .self .now .size)
 room c =
-    let l = at-hand _ _ _ _ _ _ _ _ _ _ _ (c .pre .2) (c .pre .1 .within) (c .pre .1 .here) (c .pre .1 .layer) (c .pre .0) in
-    let f = known _ _ _ _ _ true l (c .pre .0) (c .if-follows .ensures tt) in
-    let s = fits _ _ _ _ _ _ _ _ _ _ _ (c .pre .2) (c .pre .1 .within) (c .pre .1 .here) (c .pre .1 .layer) (c .pre .0) (c .if-self-y-eq0 .taken) f in
+    let s = fits _ _ _ _ (c .pre .2 .queue) (c .args .y) (c .pre .0) (c .if-self-y-eq0 .taken) in
     let m = c .args .asked .now .view .few in
     (omega arith, lower _ _ _ _ _ _ _ _ _ _ _ (c .pre .2) (c .pre .1 .within) (c .pre .1 .here) (c .pre .1 .layer) (c .pre .0))
 

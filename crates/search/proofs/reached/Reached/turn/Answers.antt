@@ -1,13 +1,15 @@
-use mathlib.Core.Path.{_≡_, sym, subst, _∙_, ap}
+use mathlib.Core.Path.{_≡_, refl, subst, _∙_, ap}
 use Prim.Native.Nat.{_+_}
 use native.Mathlib.Omega.{arith}
 use lib.ListN.{getD}
-use Rattle.trust.proofs.Layers.{turned}
+use Rattle.trust.proofs.Layers.{full, turned}
 use Rattle.search.specs.Kept.{Kept}
 use Rattle.search.proofs.reached.Reached.turn.Needs as need
 
-pub add-self : need.add-self
-add-self c = omega (arith, c .loop-y .inv .1 .turn, c .loop-y .inv .1 .within, c .loop-y .inv .0 .queue .few, c .args .asked .now .view .few)
+pub returns-then-self-count : need.returns-then-self-count
+returns-then-self-count c =
+    let h = full _ _ _ _ _ _ _ _ (c .pre .2) (c .pre .0 .within) (omega arith) in
+    record { over = refl; kept = turned _ _ _ _ _ _ _ _ (c .args .x) h (c .pre .0 .within) (c .pre .0 .here) (c .pre .1) }
 
 pub returns : need.returns
 returns c =
