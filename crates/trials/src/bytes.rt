@@ -151,7 +151,7 @@ fn count(tally: &mut Tally, bytes: &[u8]) {
 }
 
 // Draws short strings and tries them.
-pub fn try_short(draws: &mut Draws, many: usize) -> Tally {
+pub(crate) fn try_short(draws: &mut Draws, many: usize) -> Tally {
     let mut tally = Tally::new();
     for _ in 0..many {
         let drawn = draw_short(draws);
@@ -162,7 +162,7 @@ pub fn try_short(draws: &mut Draws, many: usize) -> Tally {
 }
 
 // Draws long strings and tries them.
-pub fn try_long(draws: &mut Draws, many: usize) -> Tally {
+pub(crate) fn try_long(draws: &mut Draws, many: usize) -> Tally {
     let mut tally = Tally::new();
     for _ in 0..many {
         let drawn = draw_long(draws);
@@ -173,7 +173,7 @@ pub fn try_long(draws: &mut Draws, many: usize) -> Tally {
 }
 
 // Draws deep strings and tries them.
-pub fn try_deep(draws: &mut Draws, many: usize) -> Tally {
+pub(crate) fn try_deep(draws: &mut Draws, many: usize) -> Tally {
     let mut tally = Tally::new();
     for _ in 0..many {
         let levels = (draws.next() % 12) as usize + 1;

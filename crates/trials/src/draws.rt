@@ -10,12 +10,12 @@ pub struct Draws {
 }
 
 impl Draws {
-    pub fn new() -> Draws {
+    pub(crate) fn new() -> Draws {
         Draws { state: SEED }
     }
 
     // The next number drawn.
-    pub fn next(&mut self) -> u64 {
+    pub(crate) fn next(&mut self) -> u64 {
         let mut x = self.state;
         x ^= x << 13;
         x ^= x >> 7;

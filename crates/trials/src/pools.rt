@@ -146,7 +146,7 @@ fn agrees(pool: &Pool, day: u32, first: usize, least: usize) -> bool {
 }
 
 // Draws pools and tries them.
-pub fn try_pools(draws: &mut Draws, many: usize) -> Tally {
+pub(crate) fn try_pools(draws: &mut Draws, many: usize) -> Tally {
     let mut tally = Tally::new();
     for _ in 0..many {
         let pool = Pool::draw(draws);

@@ -7,7 +7,7 @@ pub struct Tally {
 }
 
 impl Tally {
-    pub fn new() -> Tally {
+    pub(crate) fn new() -> Tally {
         Tally {
             tried: 0,
             found: 0,
@@ -16,7 +16,7 @@ impl Tally {
     }
 
     // Counts a trial.
-    pub fn add(&mut self, found: bool, agreed: bool) {
+    pub(crate) fn add(&mut self, found: bool, agreed: bool) {
         self.tried = self.tried.saturating_add(1);
         if found {
             self.found = self.found.saturating_add(1);
@@ -27,7 +27,7 @@ impl Tally {
     }
 
     // Whether all agreed in each trial.
-    pub fn all(&self) -> bool {
+    pub(crate) fn all(&self) -> bool {
         self.agreed == self.tried
     }
 }
