@@ -1,12 +1,8 @@
 -- What lines bring one by one, and the numbers of papers one by one. Assumes nothing.
-use mathlib.Core.Path.{_≡_, refl, sym, ap, subst, _∙_}
-use mathlib.Core.List.{List, [], _∷_, _++_, map, append-assoc, append-nil}
-use Prim.Native.Nat.{ℕ, _+_, _≤_, _<_}
-use native.Mathlib.Omega.{arith}
-use lib.ListN.{length, getD, take, drop}
-use Rattle.std.proofs.shelf.Lists.{drop-more, drop-all}
+use mathlib.Core.Path.{_≡_, sym, ap, subst, _∙_}
+use mathlib.Core.List.{List, [], _∷_, _++_, append-assoc, append-nil}
+use Prim.Native.Nat.{ℕ}
 use Rattle.std.specs.Joined.{joined}
-use Rattle.std.specs.Of.Vec.{vec-items}
 use Rattle.std.specs.declared.option.Option.{Option}
 use Rattle.trust.specs.Chains.{Certificate}
 use Rattle.text.specs.Meaning.{Says, meaning}

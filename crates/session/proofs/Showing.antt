@@ -1,13 +1,13 @@
 -- A row printed element by element. Assumes nothing.
 use mathlib.Core.Path.{_≡_, refl, sym, ap, _∙_}
-use mathlib.Core.Bool.{Bool, true, false}
-use mathlib.Core.List.{List, [], _∷_, _++_, append-assoc, append-nil}
+use mathlib.Core.Bool.{true, false}
+use mathlib.Core.List.{List, [], _++_, append-assoc, append-nil}
 use Prim.Native.Nat.{ℕ, _+_, _≤_, _<_}
 use native.Mathlib.Omega.{arith}
 use lib.Dec.{leb}
 use lib.ListN.{length, length-append}
 use Rattle.format.specs.Elements.{Row, empty, primitive, constructed, framed, written, Reads}
-use Rattle.format.proofs.Fronts.{Front, same-front}
+use Rattle.format.proofs.Fronts.{same-front}
 use Rattle.format.proofs.Rows.{primitive-parts, constructed-parts, framed-size}
 use Rattle.format.proofs.Walks.{stop}
 use Rattle.element.specs.Cursors.{ahead, Passes, Next}

@@ -1,4 +1,4 @@
-use mathlib.Core.Path.{ap, subst}
+use mathlib.Core.Path.{subst}
 use mathlib.Core.List.{map}
 use Rattle.std.specs.Of.Vec.{vec-items}
 use Rattle.session.specs.Books.{Numbers}

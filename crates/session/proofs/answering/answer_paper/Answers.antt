@@ -1,7 +1,6 @@
 use mathlib.Core.Path.{sym, subst}
 use Rattle.format.specs.Elements.{Reads}
 use Rattle.element.specs.Judged.{deepest, longest}
-use Rattle.message.specs.Texts.{ill-text}
 use Rattle.session.specs.Rows.{row-text}
 use Rattle.session.specs.Answers.{Paper-answer, well, ill}
 use Rattle.session.proofs.Putting.{puts, puts-if-ok}

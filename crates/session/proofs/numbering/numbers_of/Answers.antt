@@ -1,11 +1,10 @@
-use mathlib.Core.Path.{_≡_, sym, ap, subst, _∙_}
+use mathlib.Core.Path.{sym, ap, subst, _∙_}
 use mathlib.Core.List.{_∷_, map}
 use native.Mathlib.Omega.{arith}
 use lib.ListN.{drop}
 use Prim.Native.Nat.{_+_}
 use Rattle.std.proofs.shelf.Lists.{drop-more, drop-all}
 use Rattle.std.specs.Of.Vec.{vec-items}
-use Rattle.session.specs.Books.{Permit}
 use Rattle.session.proofs.Bringing.{Numbered, numbered-more, numbered-end, numbered-all}
 use Rattle.session.proofs.numbering.numbers_of.Needs as need
 use Rattle.session.proofs.numbering.numbers_of.Needs.{After-deref}
