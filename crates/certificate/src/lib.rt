@@ -1,4 +1,6 @@
 // Certificates as six numbers each: which pool they are, and what is rejected.
+#![tactic(auto)]
+
 ghost use Rattle.std.specs.Prelude.{◌≡◌};
 ghost use Rattle.certificate.specs.Rejections.{number};
 

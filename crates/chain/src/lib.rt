@@ -1,4 +1,6 @@
 // Whether one certificate is the issuer of another, and whether a row of certificates is a chain.
+#![tactic(auto)]
+
 ghost use Rattle.std.specs.Prelude.{◌≡◌, ◌<◌, MatchBool};
 ghost use Rattle.trust.specs.Chains.{Pool, Chain};
 ghost use Rattle.pool.specs.Views.{view_pool};

@@ -1,4 +1,6 @@
 // Elements: bytes judged, and the element at their front.
+#![tactic(auto)]
+
 mod judging;
 
 pub use judging::{Opening, Reader, Verdict, judge};

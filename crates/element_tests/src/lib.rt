@@ -1,4 +1,6 @@
 // Elements, tried out: judged, found by paths, walked along and written.
+#![tactic(auto)]
+
 #[cfg(test)]
 mod tests {
     use element::{Verdict, judge};

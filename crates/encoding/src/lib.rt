@@ -1,4 +1,6 @@
 // Permits: the bytes of a certificate, and the certificate that bytes say.
+#![tactic(auto)]
+
 ghost use Rattle.encoding.specs.Promise.{OnePermit, PermitReads, DecodesBack};
 
 mod numbering;

@@ -1,4 +1,6 @@
 // Permits, tried out: decoded and encoded.
+#![tactic(auto)]
+
 #[cfg(test)]
 mod tests {
     use encoding::{Certificate, decode, encode};

@@ -1,4 +1,6 @@
 // The format of elements: what is promised of it, each promise on a function of its own.
+#![tactic(auto)]
+
 ghost use Rattle.format.specs.Promise.{OneReading, SameFront, WrittenOnce, Wider, PartOfBytes, OnePath, Samples};
 
 // All bytes are one row of elements or malformed, and which is decided.

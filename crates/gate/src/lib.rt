@@ -1,4 +1,6 @@
 // The library for a gate: what its C program calls.
+#![tactic(auto)]
+
 ghost use Rattle.std.specs.Prelude.{◌≡◌, Option};
 ghost use Rattle.path.specs.declared.paths.Span.{Span as Place};
 ghost use Rattle.element.specs.declared.judging.Verdict.{Verdict as Judgement};

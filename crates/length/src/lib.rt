@@ -1,4 +1,6 @@
 // Lengths: read from the front of bytes, written, and how many bytes one takes.
+#![tactic(auto)]
+
 ghost use Rattle.std.specs.Prelude.{◌≡◌, ◌++◌, length, is_ok, if◌then◌else◌};
 ghost use Rattle.format.specs.Elements.{written_length};
 ghost use Rattle.length.specs.Lengths.{front_length, ReadsLength};

@@ -1,4 +1,6 @@
 // The texts of the answers, put behind the bytes of a vector.
+#![tactic(auto)]
+
 ghost use Rattle.std.specs.Prelude.{◌≡◌, ◌<◌, ◌∷◌, ◌++◌, decimal};
 ghost use Rattle.std.specs.Char.{digit_char};
 ghost use Rattle.message.specs.Texts.{line_feed, hex_text, indent, chain_text, none_text, refusal_text, ill_text, bytes_text, element_text, Appends};

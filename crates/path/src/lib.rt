@@ -1,4 +1,6 @@
 // Elements walked along and found by their paths.
+#![tactic(auto)]
+
 mod paths;
 mod walking;
 

@@ -1,4 +1,6 @@
 // The program `permit`: reads a text of papers, marks and questions, and answers it line by line.
+#![tactic(auto)]
+
 use anyhow::anyhow;
 use session::Book;
 use std::io::{BufWriter, Read, Write};

@@ -1,4 +1,6 @@
 // The reader that goes byte by byte, and knows as soon as no bytes can help.
+#![tactic(auto)]
+
 mod place;
 mod reader;
 mod state;

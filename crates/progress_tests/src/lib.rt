@@ -1,4 +1,6 @@
 // Tests of the crate `progress`.
+#![tactic(auto)]
+
 #[cfg(test)]
 mod tests {
     use progress::{Progress, Status, ill_place};

@@ -1,4 +1,6 @@
 // A text of papers, marks and questions: all that it brings, and the answer to each of its lines.
+#![tactic(auto)]
+
 mod answering;
 mod numbering;
 mod reading;

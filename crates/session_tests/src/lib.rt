@@ -1,4 +1,6 @@
 // Tests of the crate `session`.
+#![tactic(auto)]
+
 #[cfg(test)]
 mod tests {
     use session::Book;

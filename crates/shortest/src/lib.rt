@@ -1,4 +1,6 @@
 // The shortest chain from a certificate up to a trust anchor, or that there is none.
+#![tactic(auto)]
+
 ghost use Rattle.std.specs.Prelude.{◌≡◌, length, MatchOption};
 ghost use Rattle.certificate.specs.Rejections.{number};
 ghost use Rattle.pool.specs.Views.{view_pool};

@@ -1,4 +1,6 @@
 // The shortest chain or none, tried out.
+#![tactic(auto)]
+
 #[cfg(test)]
 mod tests {
     use certificate::Rejection;

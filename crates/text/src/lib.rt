@@ -1,4 +1,6 @@
 // The lines of the program's text read into commands.
+#![tactic(auto)]
+
 ghost use Rattle.text.specs.Promise.{FiguresStand};
 
 mod command;

@@ -1,4 +1,6 @@
 // Tests of the crate `text`.
+#![tactic(auto)]
+
 #[cfg(test)]
 mod tests {
     use message::{

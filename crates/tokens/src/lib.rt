@@ -1,4 +1,6 @@
 // The lines of a text and the words of a line.
+#![tactic(auto)]
+
 ghost use Rattle.tokens.specs.Promise.{LinesStand, WordsStand};
 
 mod pieces;

@@ -1,4 +1,6 @@
 // Chains of certificates: what is promised of them, each promise on a function of its own.
+#![tactic(auto)]
+
 ghost use Rattle.trust.specs.Promise.{ChainOrNone, NoRepeats, NoLonger, MoreKeeps, ChainMeans};
 
 // There is a shortest chain, or no chain at all.

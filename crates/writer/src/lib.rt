@@ -1,4 +1,6 @@
 // Elements written behind the bytes of a vector.
+#![tactic(auto)]
+
 ghost use Rattle.std.specs.Prelude.{◌≡◌, ◌≤◌, true, ◌++◌, length, take, is_ok, if◌then◌else◌, vec_len};
 ghost use Rattle.format.specs.Elements.{framed};
 ghost use Rattle.writer.specs.Appended.{AppendedPrimitive, AppendedConstructed};

@@ -7,9 +7,9 @@ pub returns : goal.returns
 unfolding issues
 returns c = grind (arith, nat_tests)
 
-pub returns-then-not-may-issue : goal.returns-then-not-may-issue
+pub returns-then-not-may_issue : goal.returns-then-not-may_issue
 unfolding issues
-returns-then-not-may-issue c = grind (arith, nat_tests)
+returns-then-not-may_issue c = grind (arith, nat_tests)
 
 pub returns-then-subject-issuer : goal.returns-then-subject-issuer
 unfolding issues

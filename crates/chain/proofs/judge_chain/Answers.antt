@@ -14,16 +14,16 @@ returns-then-row-eq0 c =
       | then-row-eq0-via-else-row-eq0+else-row-first+then-first-count w ↦ omega (arith, s.1, w.if-first-count.true, w.count.ensures)
     ]
 
-pub returns-then-not-climbs-to : goal.returns-then-not-climbs-to
-returns-then-not-climbs-to c =
+pub returns-then-not-climbs_to : goal.returns-then-not-climbs_to
+returns-then-not-climbs_to c =
     no_step (view_pool c.args.view.now) c.args.day c.args.row.now c.args.first c.loop-k.k c.loop-k.at c.loop-k.invariant (omega arith)
-    (sym c.if-not-climbs-to.ensures)
+    (sym c.if-not-climbs_to.ensures)
 
 pub loop-k-preserved : goal.loop-k-preserved
 loop-k-preserved c =
     one_more (view_pool c.args.view.now) c.args.day c.args.row.now c.loop-k.k c.loop-k.at c.loop-k.invariant (omega arith)
-    (sym c.if-not-climbs-to.ensures)
+    (sym c.if-not-climbs_to.ensures)
 
 pub returns : goal.returns
 returns c =
-    at_last (view_pool c.args.view.now) c.args.day c.args.row.now c.args.first c.loop-k.k c.loop-k.at _ c.if-row-first.false c.loop-k.invariant (omega arith) c.ends-at.ensures
+    at_last (view_pool c.args.view.now) c.args.day c.args.row.now c.args.first c.loop-k.k c.loop-k.at _ c.if-row-first.false c.loop-k.invariant (omega arith) c.ends_at.ensures

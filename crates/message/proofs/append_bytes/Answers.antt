@@ -6,4 +6,4 @@ use Rattle.message.proofs.append_bytes.Goals as goal
 
 pub returns-in-len1-up : goal.returns-in-len1-up
 returns-in-len1-up c =
-    subst (λ l. Appends c.push-line.result (vec_items c.args.out.now) (bytes_text l) (vec_items c.push-line.new.out)) (sym (first_rest c.args.bytes.now 0 (omega (arith, eqb-false, ltb-false)))) c.push-line.ensures
+    subst (λ l. Appends c.push_line.result (vec_items c.args.out.now) (bytes_text l) (vec_items c.push_line.new.out)) (sym (first_rest c.args.bytes.now 0 (omega (arith, eqb-false, ltb-false)))) c.push_line.ensures

@@ -6,4 +6,4 @@ use Rattle.message.proofs.append_chain.Goals as goal
 
 pub returns : goal.returns
 returns c =
-    subst (λ l. Appends c.push-numbers.result (vec_items c.args.out.now) (chain_text l) (vec_items c.push-numbers.new.out)) (sym (first_rest c.args.row.now 0 (omega (arith, eqb-false, ltb-false)))) c.push-numbers.ensures
+    subst (λ l. Appends c.push_numbers.result (vec_items c.args.out.now) (chain_text l) (vec_items c.push_numbers.new.out)) (sym (first_rest c.args.row.now 0 (omega (arith, eqb-false, ltb-false)))) c.push_numbers.ensures

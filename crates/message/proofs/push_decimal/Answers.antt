@@ -16,4 +16,4 @@ returns c =
     let digits = set c.loop-left.digits at (48 + c.loop-left.left) in
     let last = digits_last c.args.n c.loop-left.left c.loop-left.at c.loop-left.digits c.loop-left.invariant c.loop-left-test.false in
     let part = between_to_end digits at 20 (omega (arith, length-set c.loop-left.digits at (48 + c.loop-left.left))) in
-    subst (λ t. Appends c.push-text.result (vec_items c.args.out.now) t (vec_items c.push-text.new.out)) (part ∙ sym last) c.push-text.ensures
+    subst (λ t. Appends c.push_text.result (vec_items c.args.out.now) t (vec_items c.push_text.new.out)) (part ∙ sym last) c.push_text.ensures

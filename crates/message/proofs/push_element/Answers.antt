@@ -5,4 +5,4 @@ use Rattle.message.proofs.push_element.Goals as goal
 
 pub returns : goal.returns
 returns c =
-    behind c.push-line.result (vec_items c.args.out.now) (indent c.args.level) (vec_items c.push-indent.new.out) (bytes_text (c.args.tag ∷ c.args.shown.now)) (vec_items c.push-line.new.out) c.in-ok-push-indent.ensures c.push-line.ensures
+    behind c.push_line.result (vec_items c.args.out.now) (indent c.args.level) (vec_items c.push_indent.new.out) (bytes_text (c.args.tag ∷ c.args.shown.now)) (vec_items c.push_line.new.out) c.in_ok-push_indent.ensures c.push_line.ensures

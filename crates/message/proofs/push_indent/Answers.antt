@@ -3,10 +3,10 @@ use Rattle.message.specs.Texts.{indent}
 use Rattle.message.proofs.Written.{fails_behind, indent_more}
 use Rattle.message.proofs.push_indent.Goals as goal
 
-pub returns-in-err-push-text : goal.returns-in-err-push-text
-returns-in-err-push-text c =
-    fails_behind c.from-residual.result (vec_items c.args.out.now) (indent c.loop.counter) (vec_items c.loop.out) (indent c.args.level) (vec_items c.push-text.new.out) c.from-residual.ensures.0 c.loop.invariant c.in-err-push-text.ensures
+pub returns-in_err-push_text : goal.returns-in_err-push_text
+returns-in_err-push_text c =
+    fails_behind c.from_residual.result (vec_items c.args.out.now) (indent c.loop.counter) (vec_items c.loop.out) (indent c.args.level) (vec_items c.push_text.new.out) c.from_residual.ensures.0 c.loop.invariant c.in_err-push_text.ensures
 
 pub loop-preserved : goal.loop-preserved
 loop-preserved c =
-    indent_more (vec_items c.args.out.now) (vec_items c.loop.out) (vec_items c.push-text.new.out) c.loop.counter c.loop.invariant c.in-ok-push-text.ensures
+    indent_more (vec_items c.args.out.now) (vec_items c.loop.out) (vec_items c.push_text.new.out) c.loop.counter c.loop.invariant c.in_ok-push_text.ensures

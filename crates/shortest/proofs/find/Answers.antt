@@ -10,12 +10,12 @@ returns-then-not-holds c = (refl, not_held _ _ _ (sym c.if-not-holds.ensures))
 pub climb-requires : goal.climb-requires
 climb-requires c = started _ _ _ most _ _ _ _ _ c.begin-reached.ensures.far c.begin-reached.ensures.from c.begin-reached.ensures.order c.begin-reached.ensures.size c.begin-reached.ensures.over c.args.asked.now.known (sym c.if-not-holds.ensures) c.args.asked.now.view.few
 
-pub lay-out-requires : goal.lay-out-requires
-lay-out-requires c =
-    let top = c.in-ok-top.ensures in
+pub lay_out-requires : goal.lay_out-requires
+lay_out-requires c =
+    let top = c.in_ok-top.ensures in
     (omega (arith, top.1.known, c.args.asked.now.view.few), omega (arith, top.1.layer, top.1.few, c.requires), λ a. omega (arith, top.1.tree.below a, c.args.asked.now.view.few))
 
 pub returns : goal.returns
 returns c =
-    let top = c.in-ok-top.ensures in
-    written _ _ _ c.climb.new.self.far c.climb.new.self.from top.0 c.in-ok-top.top (get_or c.climb.new.self.far c.in-ok-top.top 0) _ _ top.1 top.1.layer c.requires c.lay-out.ensures
+    let top = c.in_ok-top.ensures in
+    written _ _ _ c.climb.new.self.far c.climb.new.self.from top.0 c.in_ok-top.top (get_or c.climb.new.self.far c.in_ok-top.top 0) _ _ top.1 top.1.layer c.requires c.lay_out.ensures

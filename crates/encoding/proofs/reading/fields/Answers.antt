@@ -2,32 +2,32 @@ use Rattle.std.proofs.Common.{sym, ◌∙◌, arith}
 use Rattle.encoding.proofs.Tails.{fields_are, left_start, left_none, left_1, left_2, left_3, left_4, left_5, no_mark, more_behind, six_fields}
 use Rattle.encoding.proofs.reading.fields.Goals as goal
 
-pub returns-in-err-subject : goal.returns-in-err-subject
-returns-in-err-subject c = rw c.from-residual.ensures (left_none 0 (omega arith) (left_start c.args.start) c.in-err-subject.ensures)
+pub returns-in_err-subject : goal.returns-in_err-subject
+returns-in_err-subject c = rw c.from_residual.ensures (left_none 0 (omega arith) (left_start c.args.start) c.in_err-subject.ensures)
 
-pub returns-in-err-issuer : goal.returns-in-err-issuer
-returns-in-err-issuer c = rw c.from-residual-in-err-issuer.ensures (left_none 1 (omega arith) (left_1 c.in-ok-subject.ensures) c.in-err-issuer.ensures)
+pub returns-in_err-issuer : goal.returns-in_err-issuer
+returns-in_err-issuer c = rw c.from_residual-in_err-issuer.ensures (left_none 1 (omega arith) (left_1 c.in_ok-subject.ensures) c.in_err-issuer.ensures)
 
-pub returns-in-err-not-before : goal.returns-in-err-not-before
-returns-in-err-not-before c = rw c.from-residual-in-err-not-before.ensures (left_none 2 (omega arith) (left_2 c.in-ok-subject.ensures c.in-ok-issuer.ensures) c.in-err-not-before.ensures)
+pub returns-in_err-not_before : goal.returns-in_err-not_before
+returns-in_err-not_before c = rw c.from_residual-in_err-not_before.ensures (left_none 2 (omega arith) (left_2 c.in_ok-subject.ensures c.in_ok-issuer.ensures) c.in_err-not_before.ensures)
 
-pub returns-in-err-not-after : goal.returns-in-err-not-after
-returns-in-err-not-after c = rw c.from-residual-in-err-not-after.ensures (left_none 3 (omega arith) (left_3 c.in-ok-subject.ensures c.in-ok-issuer.ensures c.in-ok-not-before.ensures) c.in-err-not-after.ensures)
+pub returns-in_err-not_after : goal.returns-in_err-not_after
+returns-in_err-not_after c = rw c.from_residual-in_err-not_after.ensures (left_none 3 (omega arith) (left_3 c.in_ok-subject.ensures c.in_ok-issuer.ensures c.in_ok-not_before.ensures) c.in_err-not_after.ensures)
 
-pub returns-in-err-number : goal.returns-in-err-number
-returns-in-err-number c = rw c.from-residual-in-err-number.ensures (left_none 4 (omega arith) (left_4 c.in-ok-subject.ensures c.in-ok-issuer.ensures c.in-ok-not-before.ensures c.in-ok-not-after.ensures) c.in-err-number.ensures)
+pub returns-in_err-number : goal.returns-in_err-number
+returns-in_err-number c = rw c.from_residual-in_err-number.ensures (left_none 4 (omega arith) (left_4 c.in_ok-subject.ensures c.in_ok-issuer.ensures c.in_ok-not_before.ensures c.in_ok-not_after.ensures) c.in_err-number.ensures)
 
-pub returns-in-err-may-issue : goal.returns-in-err-may-issue
-returns-in-err-may-issue c = rw c.from-residual-in-err-may-issue.ensures (no_mark c.in-ok-subject.ensures c.in-ok-issuer.ensures c.in-ok-not-before.ensures c.in-ok-not-after.ensures c.in-ok-number.ensures c.in-err-may-issue.ensures)
+pub returns-in_err-may_issue : goal.returns-in_err-may_issue
+returns-in_err-may_issue c = rw c.from_residual-in_err-may_issue.ensures (no_mark c.in_ok-subject.ensures c.in_ok-issuer.ensures c.in_ok-not_before.ensures c.in_ok-not_after.ensures c.in_ok-number.ensures c.in_err-may_issue.ensures)
 
-pub returns-in-err-path-len : goal.returns-in-err-path-len
-returns-in-err-path-len c = rw c.from-residual-in-err-path-len.ensures (left_none 5 (omega arith) (left_5 c.in-ok-subject.ensures c.in-ok-issuer.ensures c.in-ok-not-before.ensures c.in-ok-not-after.ensures c.in-ok-number.ensures) c.in-err-path-len.ensures)
+pub returns-in_err-path_len : goal.returns-in_err-path_len
+returns-in_err-path_len c = rw c.from_residual-in_err-path_len.ensures (left_none 5 (omega arith) (left_5 c.in_ok-subject.ensures c.in_ok-issuer.ensures c.in_ok-not_before.ensures c.in_ok-not_after.ensures c.in_ok-number.ensures) c.in_err-path_len.ensures)
 
-pub returns-then-not-at-end : goal.returns-then-not-at-end
-returns-then-not-at-end c = more_behind c.in-ok-subject.ensures c.in-ok-issuer.ensures c.in-ok-not-before.ensures c.in-ok-not-after.ensures c.in-ok-number.ensures c.in-ok-path-len.ensures (sym c.at-end.ensures ∙ c.if-not-at-end.true)
+pub returns-then-not-at_end : goal.returns-then-not-at_end
+returns-then-not-at_end c = more_behind c.in_ok-subject.ensures c.in_ok-issuer.ensures c.in_ok-not_before.ensures c.in_ok-not_after.ensures c.in_ok-number.ensures c.in_ok-path_len.ensures (sym c.at_end.ensures ∙ c.if-not-at_end.true)
 
 pub returns : goal.returns
 returns c = (
-  record { subject = c.in-ok-subject.ensures.range; issuer = c.in-ok-issuer.ensures.range; not_before = c.in-ok-not-before.ensures.range; not_after = c.in-ok-not-after.ensures.range; path_len = c.in-ok-path-len.ensures.range },
-  fields_are _ ∙ six_fields c.in-ok-subject.ensures c.in-ok-issuer.ensures c.in-ok-not-before.ensures c.in-ok-not-after.ensures c.in-ok-number.ensures c.in-ok-path-len.ensures (sym c.at-end.ensures ∙ c.if-not-at-end.false) c.in-ok-may-issue.may_issue c.in-ok-may-issue.ensures,
+  record { subject = c.in_ok-subject.ensures.range; issuer = c.in_ok-issuer.ensures.range; not_before = c.in_ok-not_before.ensures.range; not_after = c.in_ok-not_after.ensures.range; path_len = c.in_ok-path_len.ensures.range },
+  fields_are _ ∙ six_fields c.in_ok-subject.ensures c.in_ok-issuer.ensures c.in_ok-not_before.ensures c.in_ok-not_after.ensures c.in_ok-number.ensures c.in_ok-path_len.ensures (sym c.at_end.ensures ∙ c.if-not-at_end.false) c.in_ok-may_issue.may_issue c.in_ok-may_issue.ensures,
 )

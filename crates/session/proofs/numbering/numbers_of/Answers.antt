@@ -14,11 +14,11 @@ turn c =
     let first = ap vec_items (sym c.paper-item.is) ∙ sym c.deref.ensures.value in
     subst (Numbered (map vec_items c.args.papers.now) (vec_items c.loop-paper.numbers)) (ap (map vec_items) split ∙ ap (λ b. b ∷ map vec_items (drop (c.loop-paper.paper-index + 1) c.args.papers.now)) first) c.loop-paper.invariant
 
-pub returns-in-default : goal.returns-in-default
-returns-in-default c = numbered_end _ _ _ _ (turn (goal.at.returns-in-default c).After-deref) (λ x p. c.in-default.ensures x p.range p.is)
+pub returns-in_default : goal.returns-in_default
+returns-in_default c = numbered_end _ _ _ _ (turn (goal.at.returns-in_default c).After-deref) (λ x p. c.in_default.ensures x p.range p.is)
 
 pub loop-paper-preserved : goal.loop-paper-preserved
-loop-paper-preserved c = numbered_more _ _ _ _ _ _ (turn (goal.at.loop-paper-preserved c).After-deref) (record { range = c.in-Some.ensures.0; is = c.in-Some.ensures.1 }) c.in-ok-push-six.ensures
+loop-paper-preserved c = numbered_more _ _ _ _ _ _ (turn (goal.at.loop-paper-preserved c).After-deref) (record { range = c.in-Some.ensures.0; is = c.in-Some.ensures.1 }) c.in_ok-push_six.ensures
 
 pub returns : goal.returns
 returns c = numbered_all _ _ _ c.loop-paper.invariant (ap (map vec_items) (drop_all c.loop-paper.paper-index c.args.papers.now (omega arith)))

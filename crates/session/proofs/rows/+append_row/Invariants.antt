@@ -3,8 +3,8 @@ use Rattle.path.specs.Cursors.{ahead}
 use Rattle.session.proofs.Showing.{Printed}
 use Rattle.session.proofs.rows.+append_row.Given as goal
 
-abbrev pub decreases-append-row : goal.decreases-append-row
-decreases-append-row l = length (ahead l.cursor)
+abbrev pub decreases-append_row : goal.decreases-append_row
+decreases-append_row l = length (ahead l.cursor)
 
 abbrev pub invariant-loop-element : goal.invariant-loop-element
 invariant-loop-element l =

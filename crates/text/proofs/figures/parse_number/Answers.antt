@@ -9,13 +9,13 @@ returns-then-word-eq0 c = sym (number_nil number_limit c.args.word.now (omega ar
 pub loop-b-init : goal.loop-b-init
 loop-b-init c = (number_some number_limit c.args.word.now (omega arith), omega arith)
 
-pub returns-in-err-n : goal.returns-in-err-n
-returns-in-err-n c =
-    c.from-residual.ensures ∙ sym (c.loop-b.invariant.0 ∙ digit_fails number_limit c.args.word.now c.loop-b.b-index c.loop-b.n c.loop-b-test.true c.in-err-n.ensures)
+pub returns-in_err-n : goal.returns-in_err-n
+returns-in_err-n c =
+    c.from_residual.ensures ∙ sym (c.loop-b.invariant.0 ∙ digit_fails number_limit c.args.word.now c.loop-b.b-index c.loop-b.n c.loop-b-test.true c.in_err-n.ensures)
 
 pub loop-b-preserved : goal.loop-b-preserved
 loop-b-preserved c =
-    let step = digit_read number_limit c.args.word.now c.loop-b.b-index c.loop-b.n c.in-ok-n.n c.loop-b-test.true c.in-ok-n.ensures in
+    let step = digit_read number_limit c.args.word.now c.loop-b.b-index c.loop-b.n c.in_ok-n.n c.loop-b-test.true c.in_ok-n.ensures in
     (c.loop-b.invariant.0 ∙ step.0, step.1)
 
 pub returns : goal.returns

@@ -4,13 +4,13 @@ use Rattle.tokens.specs.Pieces.{words}
 use Rattle.text.proofs.Values.{numbers_more, numbers_fail, numbers_end}
 use Rattle.text.proofs.figures.read_numbers.Goals as goal
 
-pub returns-in-default-parse-number : goal.returns-in-default-parse-number
-returns-in-default-parse-number c =
-    sym (c.loop-word.invariant ∙ numbers_fail number_limit (vec_items c.loop-word.out) (words c.loop-word.words.rest.now) _ _ c.in-Some.ensures.first c.in-default-parse-number.ensures)
+pub returns-in_default-parse_number : goal.returns-in_default-parse_number
+returns-in_default-parse_number c =
+    sym (c.loop-word.invariant ∙ numbers_fail number_limit (vec_items c.loop-word.out) (words c.loop-word.words.rest.now) _ _ c.in-Some.ensures.first c.in_default-parse_number.ensures)
 
 pub loop-word-preserved : goal.loop-word-preserved
 loop-word-preserved c =
-    c.loop-word.invariant ∙ numbers_more number_limit (vec_items c.loop-word.out) (words c.loop-word.words.rest.now) _ _ _ (vec_items c.push.new.self) c.in-Some.ensures.first c.in-Some-parse-number.ensures c.in-ok-push.ensures.items
+    c.loop-word.invariant ∙ numbers_more number_limit (vec_items c.loop-word.out) (words c.loop-word.words.rest.now) _ _ _ (vec_items c.push.new.self) c.in-Some.ensures.first c.in-Some-parse_number.ensures c.in_ok-push.ensures.items
 
 pub returns : goal.returns
-returns c = sym (c.loop-word.invariant ∙ numbers_end number_limit (vec_items c.loop-word.out) (words c.loop-word.words.rest.now) c.in-default.ensures.none)
+returns c = sym (c.loop-word.invariant ∙ numbers_end number_limit (vec_items c.loop-word.out) (words c.loop-word.words.rest.now) c.in_default.ensures.none)

@@ -9,12 +9,12 @@ returns-then-text-eq0 c = let none = lines_nil c.args.text.now (omega arith) in 
 pub returns : goal.returns
 returns c =
     let bs = c.args.text.now in
-    let n = c.line-len-n.result in
+    let n = c.line_len-n.result in
     let some : 0 < length bs = omega arith in
     let less = fewer bs n some in
     let left = ap length c.behind.ensures in
     let front : n ≡ n - 0 = omega arith in
     record {
-      first = first_line bs n some c.line-len-n.ensures.count ∙ ap₂ (λ k rest. take k bs ∷ lines rest) front (sym c.behind.ensures);
+      first = first_line bs n some c.line_len-n.ensures.count ∙ ap₂ (λ k rest. take k bs ∷ lines rest) front (sym c.behind.ensures);
       shorter = omega arith;
     }

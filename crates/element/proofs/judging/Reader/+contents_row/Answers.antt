@@ -6,13 +6,13 @@ use Rattle.element.proofs.judging.Reader.+contents_row.Goals as goal
 
 pub contents-returns-then-rest-eq0 : goal.contents-returns-then-rest-eq0
 contents-returns-then-rest-eq0 t c =
-    decides_end _ _ _ c.advance-rest.result.bytes.now (c.advance-rest.ensures.decides (all_bytes_from c.args.bytes.now (λ i. (c.type-inv.bytes i).fits))) (omega arith)
+    decides_end _ _ _ c.advance-rest.result.bytes.now (c.advance-rest.ensures.decides (all_bytes_from c.args.bytes.now (λ i. (c.type_inv.bytes i).fits))) (omega arith)
 
 pub contents-returns-else-rest-eq0 : goal.contents-returns-else-rest-eq0
-contents-returns-else-rest-eq0 t c = (c.advance-rest.ensures.decides (all_bytes_from c.args.bytes.now (λ i. (c.type-inv.bytes i).fits))).same c.row.result c.row.ensures
+contents-returns-else-rest-eq0 t c = (c.advance-rest.ensures.decides (all_bytes_from c.args.bytes.now (λ i. (c.type_inv.bytes i).fits))).same c.row.result c.row.ensures
 
 pub row-loop-rest-init : goal.row-loop-rest-init
-row-loop-rest-init t c = decides_start c.args.depth c.args.bytes.now (all_bytes_from c.args.bytes.now (λ i. (c.type-inv.bytes i).fits))
+row-loop-rest-init t c = decides_start c.args.depth c.args.bytes.now (all_bytes_from c.args.bytes.now (λ i. (c.type_inv.bytes i).fits))
 
 pub row-returns-then-behind-rest : goal.row-returns-then-behind-rest
 row-returns-then-behind-rest t c =
@@ -21,8 +21,8 @@ row-returns-then-behind-rest t c =
 pub row-loop-rest-preserved-then-size-lt-SHORT : goal.row-loop-rest-preserved-then-size-lt-SHORT
 row-loop-rest-preserved-then-size-lt-SHORT t c = decides_short _ _ _ c.loop-rest.rest.now c.loop-rest.invariant (omega arith) (omega arith) (omega arith) (omega arith)
 
-pub row-returns-in-default : goal.row-returns-in-default
-row-returns-in-default t c = decides_shut _ _ _ c.loop-rest.rest.now c.loop-rest.invariant (omega arith) c.in-default.ensures
+pub row-returns-in_default : goal.row-returns-in_default
+row-returns-in_default t c = decides_shut _ _ _ c.loop-rest.rest.now c.loop-rest.invariant (omega arith) c.in_default.ensures
 
 pub row-loop-rest-preserved-then-tag-lt-CONSTRUCTED : goal.row-loop-rest-preserved-then-tag-lt-CONSTRUCTED
 row-loop-rest-preserved-then-tag-lt-CONSTRUCTED t c = decides_primitive _ _ _ c.loop-rest.rest.now c.loop-rest.invariant _ _ _ c.in-Some.ensures (omega arith)

@@ -6,17 +6,17 @@ use Rattle.element.proofs.judging.Reader.open.Goals as goal
 pub returns-then-bytes-lt1 : goal.returns-then-bytes-lt1
 returns-then-bytes-lt1 c = shut_few c.args.bytes.now (omega arith)
 
-pub returns-in-err-value : goal.returns-in-err-value
-returns-in-err-value c =
-    subst (Opened c.args.bytes.now) (sym c.from-residual.ensures)
-    (shut_length c.args.bytes.now (omega arith) (length_behind c.args.bytes.now (λ i. (c.type-inv.bytes i).fits) _ c.in-err-value.ensures))
+pub returns-in_err-value : goal.returns-in_err-value
+returns-in_err-value c =
+    subst (Opened c.args.bytes.now) (sym c.from_residual.ensures)
+    (shut_length c.args.bytes.now (omega arith) (length_behind c.args.bytes.now (λ i. (c.type_inv.bytes i).fits) _ c.in_err-value.ensures))
 
 pub returns-then-value-bytes : goal.returns-then-value-bytes
 returns-then-value-bytes c =
-    let h = length_behind c.args.bytes.now (λ i. (c.type-inv.bytes i).fits) _ c.in-ok-value.ensures in
+    let h = length_behind c.args.bytes.now (λ i. (c.type_inv.bytes i).fits) _ c.in_ok-value.ensures in
     shut_long c.args.bytes.now _ _ (omega arith) h (omega arith)
 
 pub returns : goal.returns
 returns c =
-    let h = length_behind c.args.bytes.now (λ i. (c.type-inv.bytes i).fits) _ c.in-ok-value.ensures in
-    opens_from c.args.bytes.now _ _ (omega arith) (c.type-inv.bytes 0).fits h (omega (arith, h.within, length-drop 1 c.args.bytes.now))
+    let h = length_behind c.args.bytes.now (λ i. (c.type_inv.bytes i).fits) _ c.in_ok-value.ensures in
+    opens_from c.args.bytes.now _ _ (omega arith) (c.type_inv.bytes 0).fits h (omega (arith, h.within, length-drop 1 c.args.bytes.now))

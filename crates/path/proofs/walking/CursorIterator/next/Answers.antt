@@ -5,7 +5,7 @@ use Rattle.std.proofs.iter.Next.{firm}
 
 pub returns : goal.returns
 returns c =
-    let o = c.in-ok-tag.ensures in
+    let o = c.in_ok-tag.ensures in
     let p = parts c.args.self.now.rest.now _ _ _ o in
     record {
       steps = record { whole = p.whole; fits = omega (arith, p.inner, o.fits); front = p.front; place = refl; within = omega (arith, p.inner, p.size, o.forward); on = omega (arith, p.size) };

@@ -4,8 +4,8 @@ use Rattle.progress.proofs.Gone.{skipped_none, skipped_some, no_contents}
 use Rattle.progress.proofs.state.Progress.skip.Goals as goal
 use Rattle.progress.proofs.state.Progress.skip.Goals.{then-most-left, else-most-left}
 
-pub returns-in-default : goal.returns-in-default
-returns-in-default c = skipped_none c.args.self.now c.args.most (omega (arith, no_contents c.args.self.now.place c.in-default.not-Contents))
+pub returns-in_default : goal.returns-in_default
+returns-in_default c = skipped_none c.args.self.now c.args.most (omega (arith, no_contents c.args.self.now.place c.in_default.not-Contents))
 
 pub returns-then-over-eq0 : goal.returns-then-over-eq0
 returns-then-over-eq0 c =

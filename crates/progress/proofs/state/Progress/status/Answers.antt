@@ -9,17 +9,17 @@ returns-in-Nowhere c =
     let e : Dead ≡ status_at c.args.self.now.levels c.args.self.now.place = search rules in
     record { is = e; says = λ b. gone_says c.args.self.now b Dead e }
 
-pub returns-then-self-eq-MAX-DEPTH : goal.returns-then-self-eq-MAX-DEPTH
-returns-then-self-eq-MAX-DEPTH c =
+pub returns-then-self-eq-MAX_DEPTH : goal.returns-then-self-eq-MAX_DEPTH
+returns-then-self-eq-MAX_DEPTH c =
     let e : Ends ≡ status_at c.args.self.now.levels c.args.self.now.place = search rules in
     record { is = e; says = λ b. gone_says c.args.self.now b Ends e }
 
-pub returns-else-self-eq-MAX-DEPTH : goal.returns-else-self-eq-MAX-DEPTH
-returns-else-self-eq-MAX-DEPTH c =
+pub returns-else-self-eq-MAX_DEPTH : goal.returns-else-self-eq-MAX_DEPTH
+returns-else-self-eq-MAX_DEPTH c =
     let e : Within ≡ status_at c.args.self.now.levels c.args.self.now.place = search rules in
     record { is = e; says = λ b. gone_says c.args.self.now b Within e }
 
-pub returns-in-default : goal.returns-in-default
-returns-in-default c =
+pub returns-in_default : goal.returns-in_default
+returns-in_default c =
     let e : Within ≡ status_at c.args.self.now.levels c.args.self.now.place = search rules in
     record { is = e; says = λ b. gone_says c.args.self.now b Within e }

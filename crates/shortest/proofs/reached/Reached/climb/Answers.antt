@@ -3,8 +3,8 @@ use Rattle.trust.proofs.Layers.{explored_below, explored_all}
 use Rattle.trust.proofs.Found.{no_chain}
 use Rattle.shortest.proofs.reached.Reached.climb.Goals as goal
 
-pub returns-then-is-anchor : goal.returns-then-is-anchor
-returns-then-is-anchor c =
+pub returns-then-is_anchor : goal.returns-then-is_anchor
+returns-then-is_anchor c =
     let h = c.loop-self.invariant in
     let i = c.loop-self.self.over in
     let x = get_or c.loop-self.self.order i 0 in
@@ -18,7 +18,7 @@ returns-then-is-anchor c =
         known = h.queue.listed i has;
         layer = e;
         few = omega (arith, h.queue.low i has, h.queue.few);
-        anchored = sym c.if-is-anchor.ensures;
+        anchored = sym c.if-is_anchor.ensures;
       },
     )
 
