@@ -7,9 +7,9 @@ use certificate::MOST;
 
 // Writes top at place last, below it the one that it was reached from, and so on down to place 0.
 pub(crate) fn lay_out(from: &[u8; MOST], top: usize, last: usize, out: &mut [u16])
-    requires top_lt_most { top < most }
-    requires last_in_bounds { last < length out.old }
-    requires by_index { (a : ℕ) → slice_index from.now a < most }
+    requires top_fits { top < most }
+    requires last_fits { last < length out.old }
+    requires from_fits { (a : ℕ) → slice_index from.now a < most }
     ensures { LaidOut from.now top last out.old out.new }
 {
     let mut at = top;

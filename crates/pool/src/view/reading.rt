@@ -60,8 +60,8 @@ impl PoolView<'_> {
 
     // Whether the signature of a under b is valid.
     pub fn signed(&self, a: usize, b: usize) -> bool
-        requires a_bound { a < (view_pool self.now).count }
-        requires b_bound { b < (view_pool self.now).count }
+        requires a_known { a < (view_pool self.now).count }
+        requires b_known { b < (view_pool self.now).count }
         ensures { result ≡ (view_pool self.now).signed a b }
     {
         self.signatures[a * self.count + b] == YES

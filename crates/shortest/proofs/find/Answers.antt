@@ -13,7 +13,11 @@ climb-requires c = started _ _ _ most _ _ _ _ _ c.begin-reached.ensures.far c.be
 pub lay_out-requires : goal.lay_out-requires
 lay_out-requires c =
     let top = c.in_ok-top.ensures in
-    (omega (arith, top.1.known, c.args.asked.now.view.few), omega (arith, top.1.layer, top.1.few, c.requires), λ a. omega (arith, top.1.tree.below a, c.args.asked.now.view.few))
+    record {
+      top_fits = omega (arith, top.1.known, c.args.asked.now.view.few);
+      last_fits = omega (arith, top.1.layer, top.1.few, c.requires);
+      from_fits = λ a. omega (arith, top.1.tree.below a, c.args.asked.now.view.few);
+    }
 
 pub returns : goal.returns
 returns c =

@@ -33,9 +33,9 @@ impl Reached {
 
     // The turn of y above x, which is in layer k.
     fn reach(&mut self, asked: &Query, k: usize, x: usize, y: usize)
-        requires y_bound { y < (view_pool asked.now.view).count }
-        requires next_2 { Next self.old self.old.over k x }
-        requires kept_2 { Kept asked.now self.old y }
+        requires y_known { y < (view_pool asked.now.view).count }
+        requires next_before { Next self.old self.old.over k x }
+        requires kept_before { Kept asked.now self.old y }
         ensures next { Next self.new self.old.over k x }
         ensures kept { Kept asked.now self.new (y + 1) }
     {
@@ -50,8 +50,8 @@ impl Reached {
     // The turn of x, the next one and no trust anchor: all that can stand next above it are reached, unless all are already.
     fn turn(&mut self, asked: &Query, k: usize, x: usize)
         requires next { Next self.old self.old.over k x }
-        requires x_value { (view_pool asked.now.view).anchor x ≡ false }
-        requires kept_2 { Kept asked.now self.old 0 }
+        requires no_anchor { (view_pool asked.now.view).anchor x ≡ false }
+        requires kept_before { Kept asked.now self.old 0 }
         ensures over { self.new.over ≡ self.old.over + 1 }
         ensures kept { Kept asked.now self.new 0 }
     {

@@ -3,10 +3,10 @@ use Rattle.shortest.proofs.Laying.{begun, laid, done}
 use Rattle.shortest.proofs.layout.lay_out.Goals as goal
 
 pub loop-i-init : goal.loop-i-init
-loop-i-init c = (begun _ _ _ _, c.requires.0)
+loop-i-init c = (begun _ _ _ _, c.requires.top_fits)
 
 pub loop-i-preserved : goal.loop-i-preserved
-loop-i-preserved c = (laid _ _ _ _ _ _ _ c.loop-i.invariant.0 c.loop-i-test.true c.loop-i.auto.i c.requires.1, c.requires.2 c.loop-i.at)
+loop-i-preserved c = (laid _ _ _ _ _ _ _ c.loop-i.invariant.0 c.loop-i-test.true c.loop-i.auto.i c.requires.last_fits, c.requires.from_fits c.loop-i.at)
 
 pub returns : goal.returns
 returns c = done _ _ _ _ _ _ _ c.loop-i.invariant.0 (omega arith)

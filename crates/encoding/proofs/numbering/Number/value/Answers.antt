@@ -5,11 +5,11 @@ use Rattle.encoding.specs.Numbers.{value_of}
 use Rattle.encoding.proofs.Digits.{more_below, room_below}
 use Rattle.encoding.proofs.numbering.Number.value.Goals as goal
 
-pub overflow-mul-value : goal.overflow-mul-value
-overflow-mul-value c = omega (arith, room_below _ _ c.loop-byte.invariant.1 (omega arith))
+pub overflow_mul-value : goal.overflow_mul-value
+overflow_mul-value c = omega (arith, room_below _ _ c.loop-byte.invariant.1 (omega arith))
 
-pub overflow-add-value : goal.overflow-add-value
-overflow-add-value c = omega (arith, room_below _ _ c.loop-byte.invariant.1 (omega arith))
+pub overflow_add-value : goal.overflow_add-value
+overflow_add-value c = omega (arith, room_below _ _ c.loop-byte.invariant.1 (omega arith))
 
 pub loop-byte-preserved : goal.loop-byte-preserved
 loop-byte-preserved c =

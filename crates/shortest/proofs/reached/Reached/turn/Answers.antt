@@ -5,8 +5,8 @@ use Rattle.shortest.proofs.reached.Reached.turn.Goals as goal
 
 pub returns-then-self-count : goal.returns-then-self-count
 returns-then-self-count c =
-    let h = full _ _ _ _ _ _ _ _ c.requires.2 c.requires.0.within (omega arith) in
-    record { over = refl; kept = turned _ _ _ _ _ _ _ _ c.args.x h c.requires.0.within c.requires.0.here c.requires.1 }
+    let h = full _ _ _ _ _ _ _ _ c.requires.kept_before c.requires.next.within (omega arith) in
+    record { over = refl; kept = turned _ _ _ _ _ _ _ _ c.args.x h c.requires.next.within c.requires.next.here c.requires.no_anchor }
 
 pub returns : goal.returns
 returns c =
@@ -14,5 +14,5 @@ returns c =
     let next = c.loop-y.invariant.1 in
     record {
       over = ap (λ i. i + 1) next.turn;
-      kept = turned _ _ _ _ _ _ _ _ c.args.x (subst (Kept c.args.asked.now c.loop-y.self) all c.loop-y.invariant.0) (omega arith) (ap (λ i. get_or c.loop-y.self.order i 0) next.turn ∙ next.here) c.requires.1;
+      kept = turned _ _ _ _ _ _ _ _ c.args.x (subst (Kept c.args.asked.now c.loop-y.self) all c.loop-y.invariant.0) (omega arith) (ap (λ i. get_or c.loop-y.self.order i 0) next.turn ∙ next.here) c.requires.no_anchor;
     }
