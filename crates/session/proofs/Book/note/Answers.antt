@@ -9,6 +9,6 @@ use Rattle.session.proofs.Book.note.Goals as goal
 pub returns-in-Some-Paper : goal.returns-in-Some-Paper
 returns-in-Some-Paper c =
     let is : c.args.command ≡ Some (Paper c.in-Some-Paper.bytes) = cc in
-    let pushed = ap (map vec_items) c.in_ok-push.ensures.items ∙ map_push vec_items (vec_items c.args.self.now.papers) c.in-Some-Paper.bytes in
+    let pushed = ap (map vec_items) c.in_ok-push-in-Some-Paper.ensures.items ∙ map_push vec_items (vec_items c.args.self.now.papers) c.in-Some-Paper.bytes in
     (λ i. record { papers = pushed i; seals = sym (append-nil (vec_items c.args.self.now.seals)) i; trusted = sym (append-nil (vec_items c.args.self.now.trusted)) i })
     ∙ ap (λ o. added (held c.args.self.now) (brings (option_map says o))) (sym is)

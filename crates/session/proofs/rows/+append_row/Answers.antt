@@ -17,7 +17,7 @@ append_row-requires t c =
     let s = c.in-Some.ensures.steps in
     let l = shorter s in
     let near = ends_within s in
-    let start = ap (λ u. length (ahead u)) c.into_iter-element-iterator.ensures.into_iter-gives in
+    let start = ap (λ u. length (ahead u)) c.into_iter-element-iterator.ensures.into_iter_gives in
     let inner = ap length c.inside.ensures.rest in
     (omega (arith, i.2.less), (omega (arith, i.0, c.inside.ensures.place), omega (arith, i.2.less)))
 
@@ -41,5 +41,5 @@ loop-element-preserved-then-not-constructed t c =
 pub returns : goal.returns
 returns t c = record {
   front = c.loop-element.invariant.2.front;
-  shown = λ ok d row h. printed_all _ _ _ _ _ _ c.loop-element.invariant.2 c.in-None.ensures.steps d row (subst (λ u. Reads d longest (ahead u) row) (sym c.into_iter-element-iterator.ensures.into_iter-gives) h);
+  shown = λ ok d row h. printed_all _ _ _ _ _ _ c.loop-element.invariant.2 c.in-None.ensures.steps d row (subst (λ u. Reads d longest (ahead u) row) (sym c.into_iter-element-iterator.ensures.into_iter_gives) h);
 }
