@@ -168,7 +168,7 @@ mod tests {
         assert_eq!(rt; deep, Err(WriteError::Contents));
         let long = append_primitive(&mut out, 5, element(heap, &[], 65_536)?.as_slice());
         assert_eq!(rt; long, Err(WriteError::Length));
-        assert_eq!(rt; out.as_slice(), &ROW);
+        assert_eq!(rt; out.as_slice(), ROW.as_slice());
         Ok(())
     }
 }

@@ -109,7 +109,7 @@ mod tests {
         let sample = encode(heap, &SAMPLE)?;
         assert_eq!(rt;
             sample.as_slice(),
-            b"\x80\x12\x01\x01\x01\x02\x01\x02\x03\x01\x64\x04\x01\xc8\x05\x01\x00\x06\x01\x00"
+            b"\x80\x12\x01\x01\x01\x02\x01\x02\x03\x01\x64\x04\x01\xc8\x05\x01\x00\x06\x01\x00".as_slice()
         );
         for number in [0, 255, 256, 65_535, 65_536, 16_777_216, 4_294_967_295] {
             let certificate = Certificate {

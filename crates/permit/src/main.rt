@@ -4,10 +4,11 @@
 use anyhow::anyhow;
 use session::Book;
 use std::io::{BufWriter, Read, Write};
+use std::process::ExitCode;
 use std::{env, fs};
 use tokens::Lines;
 
-const VERSION: &str = "permit, proved with rattle-kit-8b logic 7f726aa041520687\n";
+const VERSION: &str = "permit, proved with rattle-kit-13f logic dac8208d650f15bf\n";
 
 const HELP: &str = "permit [FILE]
 
@@ -99,10 +100,12 @@ fn run(rt: &HostRuntime) -> anyhow::Result<()> {
 }
 
 // What fails is said on standard error, and ends the program with status 1.
-fn main(rt: HostRuntime) -> anyhow::Result<()> {
-    let done = run(&rt);
-    if let Err(why) = &done {
-        let _ = eprintln!(rt; "permit: {why}");
+fn main(rt: HostRuntime) -> ExitCode {
+    match run(&rt) {
+        Ok(()) => ExitCode::SUCCESS,
+        Err(why) => {
+            let _ = eprintln!(rt; "permit: {why}");
+            ExitCode::FAILURE
+        }
     }
-    done
 }

@@ -100,7 +100,7 @@ mod tests {
         }
         text.extend_from_slice(b"chain 0 day 1\npiece 200 0\npiece 201 0\n")?;
         let out = answers(rt.alloc(), text.as_slice())?;
-        assert!(rt; out.as_slice() == b"refused 1 at 200\nnone\nrefused 3 at 201\n");
+        assert!(rt; out.as_slice() == b"refused 1 at 200\nnone\nrefused 3 at 201\n".as_slice());
         Ok(())
     }
 }

@@ -133,7 +133,7 @@ mod tests {
         append_element(&mut out, 2, 2, &[], false)?;
         assert_eq!(rt;
             out.as_slice(),
-            b"0 2 3\n65535\nnone\nrefused 3 at 7\nill at 0\nill at 18446744073709551615\n02 00 ff\n80\n  01 41 ab\n    02\n"
+            b"0 2 3\n65535\nnone\nrefused 3 at 7\nill at 0\nill at 18446744073709551615\n02 00 ff\n80\n  01 41 ab\n    02\n".as_slice()
         );
         Ok(())
     }
