@@ -2,7 +2,7 @@
 use Rattle.std.proofs.Common.{◌≡◌, ℕ, ◌+◌, ◌<◌, ◌≤◌, Bool, true, false, ◌&&◌, ltb, leb, List, [], ◌∷◌, length, get_or, drop, MatchBool, sym, refl, ap, ◌∙◌, arith, below_more}
 use Rattle.std.proofs.lemmas.List.{drop_more, drop_all}
 use Rattle.std.proofs.lemmas.Bool.{and_parts, and_from, false≢true, both_ways, lt-ltb, ltb-true}
-use Rattle.trust.specs.Chains.{Certificate, Pool, Chain, holds, issues, climbs}
+use Rattle.trust.specs.Chains.{Pool, Chain, holds, issues, climbs}
 use Rattle.chain.specs.Known.{issues_known, step, top}
 
 -- the first k certificates of the row, and the one at k, are climbed: the rest decides

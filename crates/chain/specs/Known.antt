@@ -1,6 +1,6 @@
 -- Issuing among the certificates that are there. Assumes nothing: these are definitions.
 use Rattle.std.specs.Prelude.{ℕ, Bool, ◌&&◌, nat_le, nat_lt}
-use Rattle.trust.specs.Chains.{Certificate, Pool, holds, issues}
+use Rattle.trust.specs.Chains.{Pool, holds, issues}
 
 -- a and b are certificates of the pool, and a is an issuer of b
 abbrev pub issues_known : Pool → (a b : ℕ) → Bool

@@ -1,5 +1,5 @@
 -- Where an element opens, and where none does. Assumes nothing.
-use Rattle.std.proofs.Common.{◌≡◌, ℕ, suc, ◌+◌, ◌-◌, ◌<◌, ◌≤◌, List, [], ◌∷◌, ◌++◌, length, get_or, take, drop, Option, sym, refl, ap, ◌∙◌, subst, one-add, arith, length-append, length-drop, length-take-le, get_or-drop, drop-drop, take_at}
+use Rattle.std.proofs.Common.{◌≡◌, ℕ, suc, ◌+◌, ◌-◌, ◌<◌, ◌≤◌, List, [], ◌∷◌, ◌++◌, length, get_or, take, drop, Option, sym, ap, ◌∙◌, subst, one-add, arith, length-append, length-drop, length-take-le, get_or-drop, drop-drop, take_at}
 use Rattle.std.proofs.lemmas.List.{take_rest}
 use Rattle.format.specs.Elements.{written_length, framed}
 use Rattle.format.proofs.Fronts.{Front, frame, front_length_of, front_says}

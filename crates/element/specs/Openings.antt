@@ -1,5 +1,5 @@
 -- Where the first element of bytes has its contents. Assumes nothing: these are definitions.
-use Rattle.std.specs.Prelude.{◌≡◌, ℕ, ◌+◌, ◌-◌, ◌<◌, ◌≤◌, Bool, true, List, ◌++◌, length, take, drop, Some, None, Option, ◌≢◌}
+use Rattle.std.specs.Prelude.{◌≡◌, ℕ, ◌-◌, ◌<◌, ◌≤◌, Bool, true, List, ◌++◌, length, take, drop, Some, None, Option, ◌≢◌}
 use Rattle.format.specs.Elements.{framed, all_bytes, Readable}
 use Rattle.element.specs.declared.judging.Opening.{Opening}
 use Rattle.element.specs.Judged.{longest}

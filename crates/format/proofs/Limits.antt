@@ -1,6 +1,6 @@
 -- Wider limits read what narrower ones take, and the samples. Assumes nothing.
-use Rattle.std.proofs.Common.{◌≡◌, ℕ, zero, suc, ◌≤◌, true, false, List, [], ◌∷◌, ◌++◌, length, sym, refl, ap, ◌∙◌, subst, arith}
-use Rattle.format.specs.Elements.{Row, empty, primitive, constructed, written_length, framed, written, all_bytes, well_formed, Reads}
+use Rattle.std.proofs.Common.{◌≡◌, ℕ, zero, suc, ◌≤◌, true, [], ◌∷◌, ◌++◌, length, refl, arith}
+use Rattle.format.specs.Elements.{Row, empty, primitive, constructed, framed, written, all_bytes, well_formed}
 use Rattle.format.specs.Promise.{Wider, Samples}
 use Rattle.format.proofs.Fronts.{front_length_of, front_says}
 use Rattle.format.proofs.Lengths.{begins}

@@ -2,11 +2,10 @@
 use Rattle.std.proofs.Common.{◌≡◌, ℕ, zero, suc, ◌+◌, ◌<◌, ◌≤◌, List, [], ◌∷◌, ◌++◌, length, take, drop, sym, refl, ap, ◌∙◌, subst, ⊎_elim, append_assoc, append-nil, one-add, arith, length-append, drop-drop, take_at, drop_at}
 use lib.Seq.{drop-append-add}
 use Rattle.std.proofs.lemmas.Bool.{cases_order}
-use Rattle.format.specs.Elements.{Row, empty, primitive, constructed, written_length, framed, written, Reads}
+use Rattle.format.specs.Elements.{Row, empty, primitive, constructed, written_length, framed, written}
 use Rattle.format.specs.Paths.{nth, inside, at_path, before, header, place}
 use Rattle.format.specs.Promise.{PartOfBytes, OnePath}
 use Rattle.format.proofs.Fronts.{framed_is}
-use Rattle.format.proofs.Lengths.{written_some}
 use Rattle.format.proofs.Rows.{framed_size}
 
 -- behind a first part of a given size

@@ -1,11 +1,11 @@
 -- One reading: what bytes read as is unique, whether they read as a row is decided, and how a reader goes from element to element. Assumes nothing.
-use Rattle.std.proofs.Common.{◌≡◌, ℕ, zero, suc, ◌+◌, ◌<◌, ◌≤◌, Bool, true, false, ◌⊎◌, List, [], ◌∷◌, ◌++◌, length, sym, refl, ap, ◌∙◌, subst, ap₂, inl, inr, ⊎_elim, append-nil, arith}
+use Rattle.std.proofs.Common.{◌≡◌, ℕ, zero, suc, ◌+◌, ◌<◌, ◌≤◌, Bool, true, false, ◌⊎◌, List, [], ◌∷◌, ◌++◌, length, sym, refl, ap, ◌∙◌, subst, inl, inr, ⊎_elim, append-nil, arith}
 use Rattle.std.proofs.lemmas.Bool.{cases_lt, cases_Bool, both_ways, false≢true}
 use Rattle.std.proofs.lemmas.List.{nil_from_length}
 use Rattle.format.specs.Elements.{Row, empty, primitive, constructed, framed, written, all_bytes, well_formed, Reads, Readable}
 use Rattle.format.specs.Promise.{OneReading, SameFront, WrittenOnce, single}
 use Rattle.format.proofs.Fronts.{Front, front, same_front}
-use Rattle.format.proofs.Rows.{primitive_parts, primitive_from, constructed_parts, constructed_from, framed_size, Goes_on, as_primitive, as_constructed, goes_on, has_front}
+use Rattle.format.proofs.Rows.{primitive_parts, primitive_from, constructed_parts, constructed_from, framed_size, as_primitive, as_constructed, goes_on, has_front}
 
 -- two well-formed rows that are written the same are the same
 pub unique : (row other : Row) (d e m n : ℕ) → well_formed d m row ≡ true → well_formed e n other ≡ true → written row ≡ written other → row ≡ other

@@ -1,7 +1,7 @@
 -- How a walk along bytes follows the row that they read as. Assumes nothing.
-use Rattle.std.proofs.Common.{◌≡◌, ℕ, zero, suc, ◌+◌, ◌<◌, ◌≤◌, List, [], ◌∷◌, ◌++◌, length, sym, refl, ap, ◌∙◌, subst, append-nil, arith, length-append}
+use Rattle.std.proofs.Common.{◌≡◌, ℕ, suc, ◌+◌, ◌<◌, ◌≤◌, List, ◌++◌, length, sym, refl, ap, ◌∙◌, append-nil, arith, length-append}
 use Rattle.format.specs.Elements.{Row, empty, primitive, constructed, written_length, framed, written, Reads}
-use Rattle.format.specs.Paths.{nth, inside, at_path, before, header, place}
+use Rattle.format.specs.Paths.{nth, inside, before, header}
 use Rattle.format.proofs.Fronts.{Front, same_front}
 use Rattle.format.proofs.Rows.{primitive_parts, constructed_parts, framed_size}
 

@@ -1,13 +1,13 @@
 -- What a cursor finds in the row that its bytes read as. Assumes nothing.
-use Rattle.std.proofs.Common.{◌≡◌, ℕ, zero, suc, ◌+◌, ◌-◌, ◌<◌, ◌≤◌, List, [], ◌∷◌, ◌++◌, length, get_or, take, drop, Some, None, Option, sym, refl, ap, ◌∙◌, subst, append_assoc, append-nil, zero-add, arith, length-append, length-drop, MatchOption}
+use Rattle.std.proofs.Common.{◌≡◌, ℕ, suc, ◌+◌, ◌-◌, ◌<◌, ◌≤◌, List, [], ◌∷◌, ◌++◌, length, get_or, take, drop, Some, None, Option, sym, refl, ap, ◌∙◌, subst, append_assoc, append-nil, zero-add, arith, length-append, length-drop, MatchOption}
 use Rattle.std.specs.Iterator.{Yields, YieldsThen}
 use Rattle.std.specs.List.{flat_map}
 use Rattle.std.proofs.lemmas.List.{nil_from_length, drop_more, get_or_append_left, get_or_at}
-use Rattle.format.specs.Elements.{Row, empty, framed, written, Reads}
+use Rattle.format.specs.Elements.{Row, empty, written, Reads}
 use Rattle.format.specs.Paths.{nth, inside, at_path, before, header, place}
 use Rattle.format.proofs.Places.{at_path_empty, part_of_bytes}
 use Rattle.format.proofs.Readings.{same_reading}
-use Rattle.format.proofs.Walks.{Step, Within, step, stop}
+use Rattle.format.proofs.Walks.{Step, step, stop}
 use Rattle.path.specs.Cursors.{ahead, Passes, Next, CursorGives}
 use Rattle.element.specs.Judged.{deepest, longest}
 use Rattle.path.specs.Located.{Leads, Nowhere, Found, Piece, bytes_of}

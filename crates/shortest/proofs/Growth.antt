@@ -1,9 +1,9 @@
 -- What more certificates, signatures and anchors do to an answer. Assumes nothing.
-use Rattle.std.proofs.Common.{◌≡◌, ℕ, ◌+◌, ◌*◌, ◌<◌, ◌≤◌, Bool, true, false, eqb, List, length, get_or, take, sym, refl, ap, ◌∙◌, subst, arith}
+use Rattle.std.proofs.Common.{◌≡◌, ℕ, ◌+◌, ◌*◌, ◌<◌, true, false, eqb, List, get_or, take, refl, arith}
 use Rattle.std.proofs.lemmas.Bool.{eqb-true, eq-eqb}
 use Rattle.format.proofs.Readings.{one_reading}
 use Rattle.element.specs.Judged.{deepest, longest}
-use Rattle.trust.specs.Chains.{Certificate, Extends}
+use Rattle.trust.specs.Chains.{Extends}
 use Rattle.trust.proofs.Means.{more_keeps}
 use Rattle.trust.proofs.Shortest.{chain_or_none}
 use Rattle.certificate.specs.Rejections.{number}
@@ -11,7 +11,6 @@ use Rattle.certificate.specs.Sixes.{certificate_at, pool}
 use Rattle.certificate.specs.declared.Rejection.{Rejection}
 use Rattle.certificate.specs.declared.Rejection.TheVariants.{Certificates, Marks, Unknown, Buffer, Line}
 use Rattle.shortest.specs.declared.Answer.TheVariants.{Chain as Found, NoChain, Rejected}
-use Rattle.shortest.specs.Answers.{rejected_by}
 use Rattle.shortest.specs.Promise.{Promise, Grows, MoreAnswers, AnswerPasses}
 
 pub promise : Promise
