@@ -33,9 +33,9 @@ fn main(rt: HostRuntime) -> anyhow::Result<()> {
     let long = try_long(&mut draws, STRINGS);
     let deep = try_deep(&mut draws, STRINGS);
     let pools = try_pools(&mut draws, POOLS);
-    report(&rt, "short strings", "well_formed", &short)?;
-    report(&rt, "long strings", "well_formed", &long)?;
-    report(&rt, "deep strings", "well_formed", &deep)?;
+    report(&rt, "short strings", "well-formed", &short)?;
+    report(&rt, "long strings", "well-formed", &long)?;
+    report(&rt, "deep strings", "well-formed", &deep)?;
     report(&rt, "pools", "with a chain", &pools)?;
     let all = short.all() && long.all() && deep.all() && pools.all();
     println!(rt; "{}", if all { "all agree" } else { "DISAGREE" })?;

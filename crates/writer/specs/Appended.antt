@@ -6,7 +6,7 @@ use Rattle.writer.specs.declared.WriteError.{WriteError}
 use Rattle.writer.specs.declared.WriteError.TheVariants.{Tag, Length, Contents, Memory}
 
 -- the element stands behind the old bytes, or the bytes are as they were and the reason is the first that applies: the tag is of the other kind, the contents are too long, they are no row at the depth that is left within
-abbrev pub Appended : (tag_Fits : Type 0) → (contents_fit : Type 0) → (tag : ℕ) → (contents old new : List ℕ) → Result Unit WriteError → Type 0
+abbrev pub Appended : (tag_fits : Type 0) → (contents_fit : Type 0) → (tag : ℕ) → (contents old new : List ℕ) → Result Unit WriteError → Type 0
 Appended T C tag contents old new (Ok _) = T × (length contents ≤ longest) × C × (new ≡ old ++ framed tag contents)
 Appended T C tag contents old new (Err Tag) = (T → ⊥) × (new ≡ old)
 Appended T C tag contents old new (Err Length) = T × (longest < length contents) × (new ≡ old)
