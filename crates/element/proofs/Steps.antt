@@ -57,6 +57,10 @@ step_end d b e = subst (λ l. Readable d longest l true) (sym (nil_from_length b
 pub decides_start : (d : ℕ) (b : List ℕ) → all_bytes b ≡ true → Decides d b d b
 decides_start d b h = record { shorter = omega arith; bytes = h; same = λ v k. k }
 
+-- what decides of a part that decides
+pub decides_on : (d left less : ℕ) (b rest part : List ℕ) → Decides d b left rest → Decides left rest less part → Decides d b less part
+decides_on d left less b rest part h k = record { shorter = omega (arith, h.shorter, k.shorter); bytes = k.bytes; same = λ v r. h.same v (k.same v r) }
+
 module _ (d left : ℕ) (b rest : List ℕ) (h : Decides d b left rest) where
   -- what is behind n bytes decides, with so many levels left
   decides_behind : (n less : ℕ) → ((v : Bool) → Readable less longest (drop n rest) v → Readable left longest rest v) → Decides d b less (take (length rest - n) (drop n rest))

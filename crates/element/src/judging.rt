@@ -1,5 +1,5 @@
 // Bytes judged: whether they are a row of elements.
-ghost use Rattle.std.specs.Prelude.{◌≡◌, ◌≤◌, true, length};
+ghost use Rattle.std.specs.Prelude.{◌≡◌, ℕ, ◌≤◌, true, length};
 ghost use Rattle.format.specs.Elements.{all_bytes, Readable};
 ghost use Rattle.element.specs.Judged.{Judged, deepest, longest};
 ghost use Rattle.element.specs.Openings.{Opened, Decides};
@@ -141,30 +141,46 @@ impl Reader {
         ensures shorter { length result.bytes.now ≤ length bytes.now }
         ensures decides { all_bytes bytes.now ≡ true → Decides depth bytes.now result.depth result.bytes.now }
     {
-        let mut rest = bytes;
+        let mut rest = Reader::skip(bytes);
         let mut left = depth;
         while rest.len() >= Reader::HEADER {
             let size = rest[1];
-            if size >= Length::SHORT {
+            if rest[0] < Reader::CONSTRUCTED || size >= Length::SHORT {
                 break;
             }
             let end = Reader::HEADER + size as usize;
-            if end > rest.len() {
+            if left == 0 || end != rest.len() {
                 break;
             }
-            if rest[0] < Reader::CONSTRUCTED {
-                rest = &rest[end..];
-                continue;
-            }
-            if left == 0 || end < rest.len() {
-                break;
-            }
-            rest = &rest[Reader::HEADER..];
+            rest = Reader::skip(&rest[Reader::HEADER..]);
             left -= 1;
         }
         Rest {
             bytes: rest,
             depth: left,
         }
+    }
+
+    // What is left behind the short primitives at the front.
+    fn skip(bytes: &[u8]) -> &[u8]
+        ensures shorter { length result.now ≤ length bytes.now }
+        ensures decides { all_bytes bytes.now ≡ true → (depth : ℕ) → Decides depth bytes.now depth result.now }
+    {
+        let mut rest = bytes;
+        while rest.len() >= Reader::HEADER {
+            let size = rest[1];
+            if rest[0] >= Reader::CONSTRUCTED {
+                return rest;
+            }
+            if size >= Length::SHORT {
+                return rest;
+            }
+            let behind = Reader::HEADER + size as usize;
+            if behind > rest.len() {
+                return rest;
+            }
+            rest = &rest[behind..];
+        }
+        rest
     }
 }
