@@ -1,8 +1,8 @@
 // Whether the numbers and the marks of a pool are as they should be.
 ghost use Rattle.std.specs.Prelude.{◌≡◌, ◌*◌, ◌==◌, [], length, max, slice_index_or};
 ghost use Rattle.std.specs.List.{fold};
+ghost use Rattle.certificate.specs.Inputs.{input_rejection};
 ghost use Rattle.certificate.specs.Places.{bad_mark};
-ghost use Rattle.certificate.specs.Rejections.{pool_rejection};
 ghost use Rattle.certificate.specs.Sixes.{First, faulty, all_marks, certificates_well, marks_well};
 
 use crate::{MAY_ISSUE, MOST, PoolInput, Rejection, SIX, YES};
@@ -71,7 +71,7 @@ impl PoolInput<'_> {
 
     // The first rejection that applies to the numbers and the marks, if any.
     pub fn rejection(&self) -> Option<Rejection>
-        ensures { result ≡ pool_rejection self.now.count self.now.certificates.now self.now.signatures.now self.now.anchors.now }
+        ensures { result ≡ input_rejection self.now }
     {
         if !self.certificates_well() {
             return Some(Rejection::Certificates);

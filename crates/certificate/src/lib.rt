@@ -13,7 +13,9 @@ pub const MOST: usize = 200;
 // How many numbers a certificate has.
 pub const SIX: usize = 6;
 
-// Where a certificate's numbers stand, counted from its subject: the order is that of the C interface.
+// Where each of a certificate's numbers stands: the order is that of the C interface.
+pub const SUBJECT: usize = 0;
+
 pub const ISSUER: usize = 1;
 
 pub const NOT_BEFORE: usize = 2;
