@@ -1,3 +1,4 @@
 pub mod Sixes
 pub mod Rejections
 pub mod Places
+pub mod Inputs

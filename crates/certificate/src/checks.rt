@@ -1,82 +1,84 @@
-// Whether the numbers and the marks of n certificates are as they should be.
-ghost use Rattle.std.specs.Prelude.{◌≡◌, ◌*◌, ◌==◌};
-ghost use Rattle.certificate.specs.Rejections.{pool_rejection};
+// Whether the numbers and the marks of a pool are as they should be.
+ghost use Rattle.std.specs.Prelude.{◌≡◌, ◌*◌, ◌==◌, [], length, max, slice_index_or};
+ghost use Rattle.std.specs.List.{fold};
+ghost use Rattle.certificate.specs.Inputs.{input_rejection};
+ghost use Rattle.certificate.specs.Places.{bad_mark};
 ghost use Rattle.certificate.specs.Sixes.{First, faulty, all_marks, certificates_well, marks_well};
 
-use crate::{MAY_ISSUE, MOST, Rejection, SIX, YES};
+use crate::{MAY_ISSUE, MOST, PoolInput, Rejection, SIX, YES};
+
+// The first of these certificates whose mark of who may issue is above 1, as many as they are if there is none.
+fn first_ill_marked(sixes: &[[u32; SIX]]) -> usize
+    ensures { First (length sixes.now) (λ i. bad_mark (slice_index_or sixes.now i []) 4) result }
+{
+    sixes
+        .iter()
+        .position(|six| six[MAY_ISSUE] > u32::from(YES))
+        .unwrap_or(sixes.len())
+}
 
 // The first certificate below n that is not there whole or has a mark above 1, n if there is none.
 pub(crate) fn first_faulty(n: usize, numbers: &[u32]) -> usize
     ensures { First n (faulty numbers.now) result }
 {
-    let there = numbers.len() / SIX;
-    let whole = if there < n { there } else { n };
-    for i in 0..whole {
-        if numbers[SIX * i + MAY_ISSUE] > YES as u32 {
-            return i;
-        }
-    }
-    whole
+    let (sixes, _) = numbers.as_chunks::<SIX>();
+    let there = n.min(sixes.len());
+    first_ill_marked(&sixes[..there])
 }
 
-// Whether each mark is 0 or 1: the largest of them is sought, without an early exit.
+// The largest of the marks, 0 if there is none: a fold becomes vector steps, where `all`, with its early exit, would not.
+fn largest(marks: &[u8]) -> u8
+    ensures { result ≡ fold max 0 marks.now }
+{
+    marks.iter().fold(0, |largest: u8, mark| largest.max(*mark))
+}
+
+// Whether each mark is 0 or 1.
 pub(crate) fn all_marks(marks: &[u8]) -> bool
     ensures { result ≡ all_marks marks.now }
 {
-    let mut largest = 0;
-    for mark in marks {
-        if *mark > largest {
-            largest = *mark;
-        }
-    }
-    largest <= YES
+    largest(marks) <= YES
 }
 
 // Whether n times n is a length, however large n is.
 pub(crate) fn is_square(n: u64, len: usize) -> bool
     ensures { result ≡ (len == n * n) }
 {
-    match n.checked_mul(n) {
-        Some(square) => len as u64 == square,
-        None => false,
-    }
+    n.checked_mul(n) == Some(len as u64)
 }
 
-// Whether the numbers are those of n certificates.
-fn certificates_well(n: u64, numbers: &[u32]) -> bool
-    ensures { result ≡ certificates_well n numbers.now }
-{
-    if n == 0 || n > MOST as u64 {
-        return false;
+impl PoolInput<'_> {
+    // Whether the numbers are those of so many certificates.
+    fn certificates_well(&self) -> bool
+        ensures { result ≡ certificates_well self.now.count self.now.certificates.now }
+    {
+        if self.count == 0 || self.count > MOST as u64 {
+            return false;
+        }
+        let count = self.count as usize;
+        self.certificates.len() == SIX * count && first_faulty(count, self.certificates) == count
     }
-    let count = n as usize;
-    numbers.len() == SIX * count && first_faulty(count, numbers) == count
-}
 
-// Whether the marks are those of n certificates.
-fn marks_well(n: u64, signatures: &[u8], anchors: &[u8]) -> bool
-    ensures { result ≡ marks_well n signatures.now anchors.now }
-{
-    is_square(n, signatures.len())
-        && anchors.len() as u64 == n
-        && all_marks(signatures)
-        && all_marks(anchors)
-}
+    // Whether the marks are those of so many certificates.
+    fn marks_well(&self) -> bool
+        ensures { result ≡ marks_well self.now.count self.now.signatures.now self.now.anchors.now }
+    {
+        is_square(self.count, self.signatures.len())
+            && self.anchors.len() as u64 == self.count
+            && all_marks(self.signatures)
+            && all_marks(self.anchors)
+    }
 
-// The first rejection that applies to the numbers and marks of n certificates, if any.
-pub fn pool_rejection(
-    n: u64,
-    numbers: &[u32],
-    signatures: &[u8],
-    anchors: &[u8],
-) -> Option<Rejection>
-    ensures { result ≡ pool_rejection n numbers.now signatures.now anchors.now }
-{
-    if !certificates_well(n, numbers) {
-        return Some(Rejection::Certificates);
+    // The first rejection that applies to the numbers and the marks, if any.
+    pub fn rejection(&self) -> Option<Rejection>
+        ensures { result ≡ input_rejection self.now }
+    {
+        if !self.certificates_well() {
+            return Some(Rejection::Certificates);
+        }
+        if !self.marks_well() {
+            return Some(Rejection::Marks);
+        }
+        None
     }
-    if !marks_well(n, signatures, anchors) {
-        return Some(Rejection::Marks);
-    }
-    None
 }

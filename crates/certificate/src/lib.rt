@@ -7,16 +7,15 @@ ghost use Rattle.certificate.specs.Rejections.{number};
 mod checks;
 mod places;
 
-pub use checks::pool_rejection;
-pub use places::{certificates_place, marks_place};
-
 // The most certificates that are taken.
 pub const MOST: usize = 200;
 
 // How many numbers a certificate has.
 pub const SIX: usize = 6;
 
-// Where a certificate's numbers stand, counted from its subject.
+// Where each of a certificate's numbers stands: the order is that of the C interface.
+pub const SUBJECT: usize = 0;
+
 pub const ISSUER: usize = 1;
 
 pub const NOT_BEFORE: usize = 2;
@@ -30,19 +29,28 @@ pub const PATH_LEN: usize = 5;
 // The mark that says yes, and the largest mark that there is.
 pub const YES: u8 = 1;
 
-// Why an input is rejected.
+// What is handed in of a pool, not yet checked: how many certificates, six numbers each, a signature mark for each two and an anchor mark for each.
+#[derive(Clone, Copy)]
+pub struct PoolInput<'a> {
+    pub count: u64,
+    pub certificates: &'a [u32],
+    pub signatures: &'a [u8],
+    pub anchors: &'a [u8],
+}
+
+// Why an input is rejected, by the number by which the rejection is known.
 #[derive(Clone, Copy, PartialEq, Eq, Debug)]
 pub enum Rejection {
     // No certificate, too many, not six numbers each, or a mark of who may issue above 1.
-    Certificates,
+    Certificates = 1,
     // Not a signature mark for each two certificates, not an anchor mark for each, or one above 1.
-    Marks,
+    Marks = 2,
     // The certificate asked about is not there.
-    Unknown,
+    Unknown = 3,
     // The output buffer has not a number for each certificate.
-    Buffer,
+    Buffer = 4,
     // A line of text can't be read.
-    Line,
+    Line = 5,
 }
 
 impl Rejection {
@@ -50,12 +58,6 @@ impl Rejection {
     pub fn number(self) -> u8
         ensures { result ≡ number self }
     {
-        match self {
-            Rejection::Certificates => 1,
-            Rejection::Marks => 2,
-            Rejection::Unknown => 3,
-            Rejection::Buffer => 4,
-            Rejection::Line => 5,
-        }
+        self as u8
     }
 }

@@ -5,4 +5,4 @@ use Rattle.certificate.specs.Sixes.{pool}
 
 -- the pool of the numbers and marks in a view
 abbrev pub view_pool : PoolView → Pool
-view_pool v = pool v.count v.numbers.now v.signatures.now v.anchors.now
+view_pool v = pool v.input.count v.input.certificates.now v.input.signatures.now v.input.anchors.now

@@ -2,19 +2,17 @@
 ghost use Rattle.std.specs.Prelude.{◌≡◌, ◌*◌, ◌<◌, ◌≤◌, length};
 ghost use Rattle.certificate.specs.Sixes.{most};
 
-mod making;
-mod reading;
+use certificate::PoolInput;
 
-// The numbers of `count` certificates, six each, a signature mark for each two and an anchor mark for each.
+mod making;
+
+// What was handed in of a pool, with at least one certificate and no more than are taken, and numbers and marks for as many.
 #[derive(Clone, Copy)]
 pub struct PoolView<'a> {
-    count: usize,
-    numbers: &'a [u32],
-    signatures: &'a [u8],
-    anchors: &'a [u8],
-    ghost some: { 0 < count },
-    ghost few: { count ≤ most },
-    ghost sixes: { length numbers.now ≡ 6 * count },
-    ghost square: { length signatures.now ≡ count * count },
-    ghost row: { length anchors.now ≡ count },
+    pub(crate) input: PoolInput<'a>,
+    ghost some: { 0 < input.count },
+    ghost few: { input.count ≤ most },
+    ghost sixes: { length input.certificates.now ≡ 6 * input.count },
+    ghost square: { length input.signatures.now ≡ input.count * input.count },
+    ghost row: { length input.anchors.now ≡ input.count },
 }

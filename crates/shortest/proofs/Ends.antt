@@ -1,12 +1,12 @@
 -- How the search starts and what it writes in the end. Assumes nothing.
-use Rattle.std.proofs.Common.{◌≡◌, ℕ, ◌+◌, ◌-◌, ◌<◌, ◌≤◌, true, List, length, get_or, take, drop, set, replicate, ap, ◌∙◌, subst, ⊎_elim, arith}
+use Rattle.std.proofs.Common.{◌≡◌, ℕ, ◌+◌, ◌-◌, ◌<◌, ◌≤◌, true, List, length, get_or, take, set, replicate, sym, ap, ◌∙◌, ⊎_elim, arith}
 use lib.ListN.{length-replicate}
 use Rattle.std.proofs.lemmas.List.{get_or-take, get_or_past, get_or-replicate, length-take-le}
 use Rattle.std.proofs.lemmas.Bool.{cases_lt}
 use Rattle.trust.specs.Chains.{Pool, holds}
 use Rattle.trust.specs.Layers.{Layers, Top, down}
 use Rattle.trust.proofs.Found.{laid_out}
-use Rattle.trust.proofs.Layers.{begun}
+use Rattle.trust.proofs.Layers.{begun, explored_below}
 use Rattle.shortest.specs.Answers.{Written}
 use Rattle.shortest.specs.LaidOut.{LaidOut}
 
@@ -26,20 +26,32 @@ unfolding blank
 started p day first n far from order size over e f o s v known valid few =
     rw (e, f, o, s, v) (begun p day first (blank n) (blank n) (blank n) known (omega (arith, blank_long n)) (omega (arith, blank_long n)) valid (omega (arith, blank_long n)) (blank_zero n) (blank_zero n))
 
+-- the next one, if it is a trust anchor, is the top of a shortest chain
+pub topped : (p : Pool) (day first : ℕ) (far from order : List ℕ) (size over x : ℕ) → Layers p day first far from order size over 0 → over < size → x ≡ get_or order over 0 → p.anchor x ≡ true → (k : ℕ) × Top p day first far from k x
+topped p day first far from order size over x h has e t =
+    let layer : get_or far x 0 ≡ get_or far x 0 - 1 + 1 = omega (arith, ap (λ i. get_or far i 0) e, h.queue.reached over has) in (
+      get_or far x 0 - 1,
+      record {
+        tree = h.tree;
+        explored = explored_below p day first far from order size over _ x h has (sym e) layer;
+        known = omega (arith, e, h.queue.listed over has);
+        layer = layer;
+        few = omega (arith, ap (λ i. get_or far i 0) e, h.queue.reached over has, h.queue.low over has, h.queue.few);
+        anchored = t;
+      },
+    )
+
 -- a chain that is laid out is written
-pub written : (p : Pool) (day first : ℕ) (far from : List ℕ) (k a m : ℕ) (old new : List ℕ) → Top p day first far from k a → m ≡ k + 1 → length old ≡ p.count → LaidOut from a (m - 1) old new → Written p day first m old new
+pub written : (p : Pool) (day first : ℕ) (far from : List ℕ) (k a m : ℕ) (old new : List ℕ) → Top p day first far from k a → m ≡ k + 1 → length old ≡ p.count → LaidOut from a m old new → Written p day first m old new
 written p day first far from k a m old new t e room l =
     record {
       fits = omega (arith, t.few);
       size = l.size;
       count = long;
-      rest = subst (λ j. drop j new ≡ drop j old) back l.rest;
+      rest = l.rest;
       shortest = laid_out p day first far from k a t (take m new) (long ∙ e) (λ i u. get_or-take m new i 0 (omega arith) ∙ l.each i (omega arith) ∙ ap (down from a) (same i));
     }
   where
-    back : m - 1 + 1 ≡ m
-    back = omega arith
-
     same : (i : ℕ) → m - 1 - i ≡ k - i
     same i = omega arith
 

@@ -1,16 +1,13 @@
 -- What more certificates, signatures and anchors do to an answer. Assumes nothing.
-use Rattle.std.proofs.Common.{◌≡◌, ℕ, ◌+◌, ◌*◌, ◌<◌, true, false, eqb, List, get_or, take, refl, arith}
+use Rattle.std.proofs.Common.{◌≡◌, ℕ, ◌+◌, ◌*◌, ◌<◌, true, false, eqb, List, get_or, take, Some, None, Ok, Err, sym, refl, ◌∙◌, arith}
 use Rattle.std.proofs.lemmas.Bool.{eqb-true, eq-eqb}
 use Rattle.format.proofs.Readings.{one_reading}
 use Rattle.element.specs.Judged.{deepest, longest}
 use Rattle.trust.specs.Chains.{Extends}
 use Rattle.trust.proofs.Means.{more_keeps}
 use Rattle.trust.proofs.Shortest.{chain_or_none}
-use Rattle.certificate.specs.Rejections.{number}
 use Rattle.certificate.specs.Sixes.{certificate_at, pool}
 use Rattle.certificate.specs.declared.Rejection.{Rejection}
-use Rattle.certificate.specs.declared.Rejection.TheVariants.{Certificates, Marks, Unknown, Buffer, Line}
-use Rattle.shortest.specs.declared.Answer.TheVariants.{Chain as Found, NoChain, Rejected}
 use Rattle.shortest.specs.Promise.{Promise, Grows, MoreAnswers, AnswerPasses}
 
 pub promise : Promise
@@ -34,21 +31,17 @@ extends n cs ss ts m ds us vs g = record {
   anchors = λ a h e. eq-eqb (get_or vs a 0) 1 (g.anchors a h (eqb-true (get_or ts a 0) 1 e));
 }
 
-number_some : (r : Rejection) → 0 < number r
-number_some Certificates = omega arith
-number_some Marks = omega arith
-number_some Unknown = omega arith
-number_some Buffer = omega arith
-number_some Line = omega arith
+some_none : {r : Rejection} → Some r ≡ None → ⊥
+some_none e = cc
 
 pub more_answers : MoreAnswers
-more_answers n cs ss ts m ds us vs day first old new before after k (Found j) g a b e =
+more_answers n cs ss ts m ds us vs day first old new before after k (Ok (Some j)) g a b e =
     let c = more_keeps (pool n cs ss ts) (pool m ds us vs) day first (take k new) (extends n cs ss ts m ds us vs g) a.1.shortest.chain in
     (j, refl, omega (arith, b.1.shortest.least (take k new) c, a.1.count, b.1.count))
-more_answers n cs ss ts m ds us vs day first old new before after k NoChain g a b e =
+more_answers n cs ss ts m ds us vs day first old new before after k (Ok None) g a b e =
     let c = more_keeps (pool n cs ss ts) (pool m ds us vs) day first (take k new) (extends n cs ss ts m ds us vs g) a.1.shortest.chain in
-    absurd (b.2 (take k new) c)
-more_answers n cs ss ts m ds us vs day first old new before after k (Rejected r) g a b e = absurd (omega (arith, number_some r, b.0, e))
+    absurd (b.1.1 (take k new) c)
+more_answers n cs ss ts m ds us vs day first old new before after k (Err r) g a b e = absurd (some_none (sym b.0 ∙ e))
 
 pub answer_passes : AnswerPasses
 answer_passes n cs ss ts day first old new k true a h = refl

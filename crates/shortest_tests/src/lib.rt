@@ -3,8 +3,8 @@
 
 #[cfg(test)]
 mod tests {
-    use certificate::Rejection;
-    use shortest::{Answer, find_chain};
+    use certificate::{PoolInput, Rejection};
+    use shortest::find_chain;
 
     const EMPTY: u16 = 9;
 
@@ -18,37 +18,53 @@ mod tests {
     const TRUSTED: [u8; 4] = [0, 0, 0, 1];
 
     // What is answered from certificate 0 on a day, and the output buffer.
-    fn ask(numbers: &[u32], day: u64) -> (Answer, [u16; 4]) {
+    fn ask(numbers: &[u32], day: u64) -> (Result<Option<usize>, Rejection>, [u16; 4]) {
         let mut out = [EMPTY; 4];
-        let answer = find_chain(4, numbers, &SIGNED, &TRUSTED, day, 0, &mut out);
+        let input = pool(4, numbers, &SIGNED, &TRUSTED);
+        let answer = find_chain(input, day, 0, &mut out);
         (answer, out)
+    }
+
+    // So many certificates, their numbers and their marks.
+    fn pool<'a>(
+        count: u64,
+        certificates: &'a [u32],
+        signatures: &'a [u8],
+        anchors: &'a [u8],
+    ) -> PoolInput<'a> {
+        PoolInput {
+            count,
+            certificates,
+            signatures,
+            anchors,
+        }
     }
 
     #[test]
     fn second_candidate(rt: HostRuntime) {
-        assert_eq!(rt; ask(&NUMBERS, 120), (Answer::Chain(3), [0, 2, 3, EMPTY]));
+        assert_eq!(rt; ask(&NUMBERS, 120), (Ok(Some(3)), [0, 2, 3, EMPTY]));
     }
 
     #[test]
     fn path_length_leaves_out_the_first(rt: HostRuntime) {
         let mut numbers = NUMBERS;
         numbers[17] = 0;
-        assert_eq!(rt; ask(&numbers, 120), (Answer::Chain(3), [0, 2, 3, EMPTY]));
+        assert_eq!(rt; ask(&numbers, 120), (Ok(Some(3)), [0, 2, 3, EMPTY]));
     }
 
     #[test]
     fn path_length_too_small(rt: HostRuntime) {
         let mut numbers = NUMBERS;
         numbers[23] = 0;
-        assert_eq!(rt; ask(&numbers, 120), (Answer::NoChain, [EMPTY; 4]));
+        assert_eq!(rt; ask(&numbers, 120), (Ok(None), [EMPTY; 4]));
     }
 
     #[test]
     fn days(rt: HostRuntime) {
-        assert_eq!(rt; ask(&NUMBERS, 99).0, Answer::NoChain);
-        assert_eq!(rt; ask(&NUMBERS, 100).0, Answer::Chain(3));
-        assert_eq!(rt; ask(&NUMBERS, 200).0, Answer::Chain(3));
-        assert_eq!(rt; ask(&NUMBERS, 201).0, Answer::NoChain);
+        assert_eq!(rt; ask(&NUMBERS, 99).0, Ok(None));
+        assert_eq!(rt; ask(&NUMBERS, 100).0, Ok(Some(3)));
+        assert_eq!(rt; ask(&NUMBERS, 200).0, Ok(Some(3)));
+        assert_eq!(rt; ask(&NUMBERS, 201).0, Ok(None));
     }
 
     // The days of every certificate count, not those of the first alone.
@@ -56,22 +72,22 @@ mod tests {
     fn day_of_the_anchor(rt: HostRuntime) {
         let mut numbers = NUMBERS;
         numbers[21] = 119;
-        assert_eq!(rt; ask(&numbers, 120).0, Answer::NoChain);
+        assert_eq!(rt; ask(&numbers, 120).0, Ok(None));
     }
 
     #[test]
     fn cycle(rt: HostRuntime) {
         let numbers = [1, 2, 0, 9, 1, 9, 2, 3, 0, 9, 1, 9, 3, 1, 0, 9, 1, 9];
         let mut out = [EMPTY; 3];
-        let answer = find_chain(3, &numbers, &[1; 9], &[0; 3], 5, 0, &mut out);
-        assert_eq!(rt; (answer, out), (Answer::NoChain, [EMPTY; 3]));
+        let answer = find_chain(pool(3, &numbers, &[1; 9], &[0; 3]), 5, 0, &mut out);
+        assert_eq!(rt; (answer, out), (Ok(None), [EMPTY; 3]));
     }
 
     #[test]
     fn trusted_by_itself(rt: HostRuntime) {
         let mut out = [EMPTY; 1];
-        let answer = find_chain(1, &[1, 2, 0, 9, 0, 0], &[0], &[1], 5, 0, &mut out);
-        assert_eq!(rt; (answer, out), (Answer::Chain(1), [0]));
+        let answer = find_chain(pool(1, &[1, 2, 0, 9, 0, 0], &[0], &[1]), 5, 0, &mut out);
+        assert_eq!(rt; (answer, out), (Ok(Some(1)), [0]));
     }
 
     #[test]
@@ -79,51 +95,60 @@ mod tests {
         let mut signed = SIGNED;
         signed[3 * 4 + 2] = 0;
         let mut out = [EMPTY; 4];
-        let answer = find_chain(4, &NUMBERS, &signed, &TRUSTED, 120, 0, &mut out);
-        assert_eq!(rt; answer, Answer::NoChain);
+        let answer = find_chain(pool(4, &NUMBERS, &signed, &TRUSTED), 120, 0, &mut out);
+        assert_eq!(rt; answer, Ok(None));
     }
 
     #[test]
     fn rejected_certificates(rt: HostRuntime) {
-        let certificates = Answer::Rejected(Rejection::Certificates);
+        let certificates = Err(Rejection::Certificates);
         let mut out = [EMPTY; 0];
-        assert_eq!(rt; find_chain(0, &[], &[], &[], 5, 0, &mut out), certificates);
         assert_eq!(rt;
-            find_chain(201, &[], &[], &[], 5, 0, &mut out),
+            find_chain(pool(0, &[], &[], &[]), 5, 0, &mut out),
             certificates
         );
         assert_eq!(rt;
-            find_chain(1, &[1; 5], &[2], &[2], 5, 1, &mut out),
+            find_chain(pool(201, &[], &[], &[]), 5, 0, &mut out),
             certificates
         );
         assert_eq!(rt;
-            find_chain(1, &[2; 6], &[2], &[2], 5, 1, &mut out),
+            find_chain(pool(1, &[1; 5], &[2], &[2]), 5, 1, &mut out),
+            certificates
+        );
+        assert_eq!(rt;
+            find_chain(pool(1, &[2; 6], &[2], &[2]), 5, 1, &mut out),
             certificates
         );
     }
 
     #[test]
     fn rejected_marks(rt: HostRuntime) {
-        let marks = Answer::Rejected(Rejection::Marks);
+        let marks = Err(Rejection::Marks);
         let mut out = [EMPTY; 0];
-        assert_eq!(rt; find_chain(1, &[1; 6], &[], &[1], 5, 1, &mut out), marks);
-        assert_eq!(rt; find_chain(1, &[1; 6], &[1], &[], 5, 1, &mut out), marks);
-        assert_eq!(rt; find_chain(1, &[1; 6], &[2], &[1], 5, 1, &mut out), marks);
-        assert_eq!(rt; find_chain(1, &[1; 6], &[1], &[2], 5, 1, &mut out), marks);
+        assert_eq!(rt;
+            find_chain(pool(1, &[1; 6], &[], &[1]), 5, 1, &mut out),
+            marks
+        );
+        assert_eq!(rt;
+            find_chain(pool(1, &[1; 6], &[1], &[]), 5, 1, &mut out),
+            marks
+        );
+        assert_eq!(rt;
+            find_chain(pool(1, &[1; 6], &[2], &[1]), 5, 1, &mut out),
+            marks
+        );
+        assert_eq!(rt;
+            find_chain(pool(1, &[1; 6], &[1], &[2]), 5, 1, &mut out),
+            marks
+        );
     }
 
     #[test]
     fn rejected_first_and_buffer(rt: HostRuntime) {
         let mut out = [EMPTY; 2];
-        let unknown = find_chain(1, &[1; 6], &[1], &[1], 5, 1, &mut out);
-        assert_eq!(rt;
-            (unknown, out),
-            (Answer::Rejected(Rejection::Unknown), [EMPTY; 2])
-        );
-        let buffer = find_chain(1, &[1; 6], &[1], &[1], 5, 0, &mut out);
-        assert_eq!(rt;
-            (buffer, out),
-            (Answer::Rejected(Rejection::Buffer), [EMPTY; 2])
-        );
+        let unknown = find_chain(pool(1, &[1; 6], &[1], &[1]), 5, 1, &mut out);
+        assert_eq!(rt; (unknown, out), (Err(Rejection::Unknown), [EMPTY; 2]));
+        let buffer = find_chain(pool(1, &[1; 6], &[1], &[1]), 5, 0, &mut out);
+        assert_eq!(rt; (buffer, out), (Err(Rejection::Buffer), [EMPTY; 2]));
     }
 }

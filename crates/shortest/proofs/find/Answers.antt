@@ -1,25 +1,28 @@
-use Rattle.std.proofs.Common.{get_or, sym, refl, arith}
+use Rattle.std.proofs.Common.{sym, refl, ap, ◌∙◌, arith}
+use Rattle.trust.specs.Chains.{holds}
 use Rattle.trust.proofs.Found.{not_held}
 use Rattle.certificate.specs.Sixes.{most}
+use Rattle.pool.proofs.Members.{said_at}
 use Rattle.shortest.proofs.Ends.{started, written}
 use Rattle.shortest.proofs.find.Goals as goal
 
 pub returns-then-not-holds : goal.returns-then-not-holds
-returns-then-not-holds c = (refl, not_held _ _ _ (sym c.if-not-holds.ensures))
+returns-then-not-holds c =
+    (refl, not_held _ _ _ (ap (λ s. holds s c.args.asked.now.day) (sym (said_at _ _ c.at.result c.at.ensures)) ∙ sym c.if-not-holds.ensures))
 
 pub climb-requires : goal.climb-requires
-climb-requires c = started _ _ _ most _ _ _ _ _ c.begin-reached.ensures.far c.begin-reached.ensures.from c.begin-reached.ensures.order c.begin-reached.ensures.size c.begin-reached.ensures.over c.args.asked.now.known (sym c.if-not-holds.ensures) c.args.asked.now.view.few
+climb-requires c = started _ _ _ most _ _ _ _ _ c.begin-reached.ensures.far c.begin-reached.ensures.from c.begin-reached.ensures.order c.begin-reached.ensures.size c.begin-reached.ensures.over c.args.asked.now.known (ap (λ s. holds s c.args.asked.now.day) (sym (said_at _ _ c.at.result c.at.ensures)) ∙ sym c.if-not-holds.ensures) c.args.asked.now.view.few
 
 pub lay_out-requires : goal.lay_out-requires
 lay_out-requires c =
     let top = c.in_ok-top.ensures in
     record {
       top_fits = omega (arith, top.1.known, c.args.asked.now.view.few);
-      last_fits = omega (arith, top.1.layer, top.1.few, c.requires);
+      count_fits = omega (arith, c.from-count.ensures, top.1.layer, top.1.few, c.requires);
       from_fits = λ a. omega (arith, top.1.tree.below a, c.args.asked.now.view.few);
     }
 
 pub returns : goal.returns
 returns c =
     let top = c.in_ok-top.ensures in
-    written _ _ _ c.climb.new.self.far c.climb.new.self.from top.0 c.in_ok-top.top (get_or c.climb.new.self.far c.in_ok-top.top 0) _ _ top.1 top.1.layer c.requires c.lay_out.ensures
+    written _ _ _ c.climb.new.self.far c.climb.new.self.from top.0 c.in_ok-top.top _ _ _ top.1 (c.from-count.ensures ∙ top.1.layer) c.requires c.lay_out.ensures

@@ -12,8 +12,7 @@ impl Query<'_> {
         requires { b < (view_pool self.now.view).count }
         ensures { result ≡ follows_known (view_pool self.now.view) self.now.day k a b }
     {
-        issues(&self.view, b, a)
-            && k <= self.view.path_len(b) as usize
-            && self.view.holds(b, self.day)
+        let above = self.view.at(b);
+        issues(&self.view, b, a) && k <= above.path_len() as usize && above.holds(self.day)
     }
 }

@@ -71,11 +71,11 @@ impl Reached {
         ensures { MatchOption result (NoneUp asked.now) (λ a. (k : ℕ) × Topped asked.now self.new k a) }
     {
         while self.over < self.size {
-            let x = self.order[self.over] as usize;
-            if asked.view.is_anchor(x) {
+            let x = usize::from(self.order[self.over]);
+            if asked.view.at(x).is_anchor() {
                 return Some(x);
             }
-            let k = self.far[x] as usize - 1;
+            let k = usize::from(self.far[x]) - 1;
             self.turn(asked, k, x);
         }
         None

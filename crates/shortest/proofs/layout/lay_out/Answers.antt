@@ -3,10 +3,13 @@ use Rattle.shortest.proofs.Laying.{begun, laid, done}
 use Rattle.shortest.proofs.layout.lay_out.Goals as goal
 
 pub loop-i-init : goal.loop-i-init
-loop-i-init c = (begun _ _ _ _, c.requires.top_fits)
+loop-i-init c = record { laying = begun _ _ _ _; fits = c.requires.top_fits }
 
 pub loop-i-preserved : goal.loop-i-preserved
-loop-i-preserved c = (laid _ _ _ _ _ _ _ c.loop-i.invariant.0 c.loop-i-test.true c.loop-i.auto.i c.requires.last_fits, c.requires.from_fits c.loop-i.at)
+loop-i-preserved c = record {
+  laying = laid _ _ _ _ _ _ _ _ c.loop-i.invariant.laying c.loop-i-test.true c.loop-i.auto.i c.requires.count_fits c.from-at.ensures;
+  fits = omega (arith, c.from-at.ensures, c.requires.from_fits c.loop-i.at);
+}
 
 pub returns : goal.returns
-returns c = done _ _ _ _ _ _ _ c.loop-i.invariant.0 (omega arith)
+returns c = done _ _ _ _ _ _ _ c.loop-i.invariant.laying (omega arith)

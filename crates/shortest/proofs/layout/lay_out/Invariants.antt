@@ -4,4 +4,4 @@ use Rattle.shortest.proofs.Laying.{Laying}
 use Rattle.shortest.proofs.layout.lay_out.Given as goal
 
 abbrev pub invariant-loop-i : goal.invariant-loop-i
-invariant-loop-i l = Laying l.from l.top l.last l.initial.out l.out l.at l.i × (l.at < most)
+invariant-loop-i l = record { laying : Laying l.from l.top l.count l.initial.out l.out l.at l.i; fits : l.at < most }

@@ -10,7 +10,7 @@ returns-then-self-count c =
 
 pub returns : goal.returns
 returns c =
-    let all : c.loop-y.y ≡ c.args.asked.now.view.count = omega arith in
+    let all : c.loop-y.y ≡ c.args.asked.now.view.input.count = omega arith in
     let next = c.loop-y.invariant.1 in
     record {
       over = ap (λ i. i + 1) next.turn;
