@@ -7,13 +7,10 @@ ghost use Rattle.element.specs.Openings.{Opened, Decides};
 use length::Length;
 use progress::ill_place;
 
-// What judging answers.
+// The place of malformed bytes: the first byte after which no bytes behind could make them a row, or how many there are.
 #[derive(Clone, Copy, PartialEq, Eq, Debug)]
-pub enum Verdict {
-    // The bytes are a row of elements.
-    Well,
-    // They are not: `at` is the first byte after which no bytes behind could make them one, or how many there are.
-    Ill { at: usize },
+pub struct Ill {
+    pub at: usize,
 }
 
 // The first element of bytes: its tag, and from where to where its contents stand.
@@ -32,17 +29,14 @@ struct Rest<'a> {
 }
 
 // Whether the bytes are a row of elements; only malformed ones are gone over again, for the place.
-pub fn judge(bytes: &[u8]) -> Verdict
+pub fn judge(bytes: &[u8]) -> Result<(), Ill>
     ensures { Judged bytes.now result }
 {
     if Reader::well_formed(bytes) {
-        return Verdict::Well;
+        return Ok(());
     }
-    match ill_place(bytes) {
-        Some(at) => Verdict::Ill { at },
-        // Not reached: the two readers agree.
-        None => Verdict::Well,
-    }
+    // None is not reached: the two readers agree.
+    ill_place(bytes).map_or(Ok(()), |at| Err(Ill { at }))
 }
 
 // The reader of rows and of what stands within constructed elements.

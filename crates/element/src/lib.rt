@@ -3,4 +3,4 @@
 
 mod judging;
 
-pub use judging::{Opening, Reader, Verdict, judge};
+pub use judging::{Ill, Opening, Reader, judge};

@@ -3,7 +3,7 @@
 
 #[cfg(test)]
 mod tests {
-    use element::{Verdict, judge};
+    use element::{Ill, judge};
     use path::{Cursor, locate, piece};
     use std::alloc::{AllocError, Global};
     use std::test::Fail;
@@ -13,13 +13,6 @@ mod tests {
 
     // A row of two elements: one with two within, and one of two bytes.
     const ROW: [u8; 11] = [128, 5, 1, 1, 65, 2, 0, 5, 2, 7, 8];
-
-    fn is_well(bytes: &[u8]) -> bool {
-        match judge(bytes) {
-            Verdict::Well => true,
-            Verdict::Ill { at: _ } => false,
-        }
-    }
 
     // A tag, the bytes of a length, and contents.
     fn element(heap: Global, front: &[u8], contents: usize) -> Result<Vec<u8>, AllocError> {
@@ -68,10 +61,7 @@ mod tests {
             (&[5, 128], Some(1)),
         ];
         for (bytes, ill) in table {
-            let verdict = match ill {
-                Some(at) => Verdict::Ill { at },
-                None => Verdict::Well,
-            };
+            let verdict = ill.map_or(Ok(()), |at| Err(Ill { at }));
             assert_eq!(rt; judge(bytes), verdict);
         }
     }
@@ -97,7 +87,7 @@ mod tests {
         ];
         for (front, contents, well) in table {
             let bytes = element(heap, front, contents)?;
-            assert_eq!(rt; is_well(bytes.as_slice()), well);
+            assert_eq!(rt; judge(bytes.as_slice()).is_ok(), well);
         }
         Ok(())
     }
@@ -105,9 +95,9 @@ mod tests {
     #[test]
     fn depths(rt: HostRuntime) -> Result<(), Fail> {
         let heap = rt.alloc();
-        assert!(rt; is_well(nested(heap, 0)?.as_slice()));
-        assert!(rt; is_well(nested(heap, 8)?.as_slice()));
-        assert!(rt; !is_well(nested(heap, 9)?.as_slice()));
+        assert!(rt; judge(nested(heap, 0)?.as_slice()).is_ok());
+        assert!(rt; judge(nested(heap, 8)?.as_slice()).is_ok());
+        assert!(rt; judge(nested(heap, 9)?.as_slice()).is_err());
         Ok(())
     }
 

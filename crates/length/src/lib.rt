@@ -22,75 +22,50 @@ impl Length {
     // Behind this byte stands a length of two bytes, the higher first.
     pub const TWO_BYTES: u8 = 130;
 
-    // Lengths below this are one byte by themselves.
-    const SHORT_END: u16 = 128;
-    // Lengths below this are a byte.
-    const BYTE_END: u16 = 256;
-
     // The length at the front of the bytes, or none if no length is written there.
     pub fn read(bytes: &[u8]) -> Option<Length>
         ensures { result ≡ front_length bytes.now }
     {
-        if bytes.len() < 1 {
-            return None;
-        }
-        let first = bytes[0];
-        if first < Length::SHORT {
-            return Some(Length {
-                value: first as usize,
+        match bytes {
+            [first, ..] if *first < Length::SHORT => Some(Length {
+                value: usize::from(*first),
                 size: 1,
-            });
-        }
-        if first == Length::ONE_BYTE && bytes.len() >= 2 {
-            let value = bytes[1];
-            if value < Length::SHORT {
-                return None;
-            }
-            return Some(Length {
-                value: value as usize,
+            }),
+            [Length::ONE_BYTE, value, ..] if *value >= Length::SHORT => Some(Length {
+                value: usize::from(*value),
                 size: 2,
-            });
-        }
-        if first == Length::TWO_BYTES && bytes.len() >= 3 {
-            let high = bytes[1];
-            let low = bytes[2];
-            if high == 0 {
-                return None;
-            }
-            return Some(Length {
-                value: Length::BYTE_END as usize * high as usize + low as usize,
+            }),
+            [Length::TWO_BYTES, high, low, ..] if *high != 0 => Some(Length {
+                value: usize::from(u16::from_be_bytes([*high, *low])),
                 size: 3,
-            });
+            }),
+            _ => None,
         }
-        None
     }
 
     // How many bytes a length takes.
     pub fn size_of(value: u16) -> usize
         ensures { result ≡ length (written_length value) }
     {
-        if value < Length::SHORT_END {
-            return 1;
+        if value < u16::from(Length::SHORT) {
+            1
+        } else if value <= u16::from(u8::MAX) {
+            2
+        } else {
+            3
         }
-        if value < Length::BYTE_END {
-            return 2;
-        }
-        3
     }
 
     // Writes a length behind the bytes; where memory fails they stay as they were.
     pub fn append(out: &mut Vec<u8>, value: u16) -> Result<(), AllocError>
         ensures { out.new.items ≡ (if is_ok result then out.old.items ++ written_length value else out.old.items) }
     {
-        let low = (value % Length::BYTE_END) as u8;
-        if value < Length::SHORT_END {
-            return out.extend_from_slice(&[low]);
+        let [high, low] = value.to_be_bytes();
+        match Length::size_of(value) {
+            1 => out.extend_from_slice(&[low]),
+            2 => out.extend_from_slice(&[Length::ONE_BYTE, low]),
+            _ => out.extend_from_slice(&[Length::TWO_BYTES, high, low]),
         }
-        if value < Length::BYTE_END {
-            return out.extend_from_slice(&[Length::ONE_BYTE, low]);
-        }
-        let high = (value / Length::BYTE_END) as u8;
-        out.extend_from_slice(&[Length::TWO_BYTES, high, low])
     }
 }
 
