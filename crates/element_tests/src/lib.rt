@@ -17,9 +17,7 @@ mod tests {
     // A tag, the bytes of a length, and contents.
     fn element(heap: Global, front: &[u8], contents: usize) -> Result<Vec<u8>, AllocError> {
         let mut bytes = Vec::from_slice(heap, front)?;
-        for _ in 0..contents {
-            bytes.push(7)?;
-        }
+        bytes.resize(front.len().saturating_add(contents), 7)?;
         Ok(bytes)
     }
 
@@ -27,10 +25,8 @@ mod tests {
     fn nested(heap: Global, depth: usize) -> Result<Vec<u8>, Fail> {
         let mut bytes = vec![in heap; 1, 0]?;
         for _ in 0..depth {
-            let mut outer = Vec::new(heap);
-            outer.push(200)?;
-            outer.push((bytes.len() % 128) as u8)?;
-            outer.extend_from_slice(bytes.as_slice())?;
+            let mut outer = vec![in heap; 200, (bytes.len() % 128) as u8]?;
+            outer.extend_from_slice(&bytes)?;
             bytes = outer;
         }
         Ok(bytes)
@@ -104,26 +100,22 @@ mod tests {
     #[test]
     fn paths(rt: HostRuntime) {
         let malformed: &[u8] = &[128, 5, 1, 1, 65, 2, 0, 5, 2, 7];
-        let table: [(&[u8], &[u64], &[u8], usize); 9] = [
-            (&ROW, &[0, 1], &[2, 0], 5),
-            (&ROW, &[0], &[128, 5, 1, 1, 65, 2, 0], 0),
-            (&ROW, &[1], &[5, 2, 7, 8], 7),
-            (&ROW, &[1, 0], &[], 0),
-            (&ROW, &[], &[], 0),
-            (&ROW, &[2], &[], 0),
-            (&ROW, &[LAST], &[], 0),
-            (&ROW, &[0, LAST], &[], 0),
-            (malformed, &[0], &[], 0),
+        // The part, and where it begins, or nothing.
+        let table: [(&[u8], &[u64], Option<(&[u8], usize)>); 9] = [
+            (&ROW, &[0, 1], Some((&[2, 0], 5))),
+            (&ROW, &[0], Some((&[128, 5, 1, 1, 65, 2, 0], 0))),
+            (&ROW, &[1], Some((&[5, 2, 7, 8], 7))),
+            (&ROW, &[1, 0], None),
+            (&ROW, &[], None),
+            (&ROW, &[2], None),
+            (&ROW, &[LAST], None),
+            (&ROW, &[0, LAST], None),
+            (malformed, &[0], None),
         ];
-        for (bytes, path, part, at) in table {
-            assert_eq!(rt; piece(bytes, path), part);
-            match locate(bytes, path) {
-                Some(span) => {
-                    assert_eq!(rt; span.at, at);
-                    assert_eq!(rt; span.len, part.len());
-                }
-                None => assert!(rt; part.is_empty()),
-            }
+        for (bytes, path, expected) in table {
+            assert_eq!(rt; piece(bytes, path), expected.map(|(part, _)| part));
+            let span = locate(bytes, path).map(|span| (span.at, span.len));
+            assert_eq!(rt; span, expected.map(|(part, at)| (at, part.len())));
         }
     }
 
@@ -132,11 +124,20 @@ mod tests {
         let mut tags = 0u64;
         let mut bytes = 0;
         for element in Cursor::new(&ROW) {
-            tags = tags.wrapping_mul(1000).wrapping_add(element.tag as u64);
+            tags = tags.wrapping_mul(1000).wrapping_add(u64::from(element.tag));
             bytes = element.at;
         }
         assert_eq!(rt; tags, 128_005);
         assert_eq!(rt; bytes, 7);
+    }
+
+    #[test]
+    fn rows(rt: HostRuntime) {
+        for element in Cursor::new(&ROW) {
+            let within = element.row().map(|row| row.at);
+            let expected = if element.at == 0 { Some(2) } else { None };
+            assert_eq!(rt; within, expected);
+        }
     }
 
     #[test]
@@ -146,7 +147,7 @@ mod tests {
         append_primitive(&mut row, 1, &[65])?;
         append_primitive(&mut row, 2, &[])?;
         let mut out = Vec::new(heap);
-        append_constructed(&mut out, 128, row.as_slice())?;
+        append_constructed(&mut out, 128, &row)?;
         append_primitive(&mut out, 5, &[7, 8])?;
         let other = append_primitive(&mut out, 128, &[]);
         assert_eq!(rt; other, Err(WriteError::Tag));

@@ -1,17 +1,14 @@
 -- Numbers and their bytes: each number below 2^32 has bytes of its own. Assumes nothing.
-use Rattle.std.proofs.Common.{◌≡◌, ℕ, ◌+◌, ◌-◌, ◌*◌, ◌/◌, ◌%◌, ◌^◌, ◌<◌, ◌≤◌, true, false, ◌&&◌, ◌||◌, eqb, ltb, leb, List, [], ◌∷◌, length, get_or, take, drop, None, sym, refl, ap, ◌∙◌, subst, ⊎_elim, pow-suc, add-one, arith}
-use native.Mathlib.Nat.{pow-le-pow_right}
+use Rattle.std.proofs.Common.{◌≡◌, ℕ, ◌+◌, ◌-◌, ◌*◌, ◌/◌, ◌%◌, ◌^◌, ◌<◌, ◌≤◌, true, ltb, List, [], ◌∷◌, length, get_or, take, drop, Some, fold, sym, refl, ap, ◌∙◌, subst, ⊎_elim, w32, arith}
+use Rattle.std.specs.Int.{from_be_bytes}
 use Rattle.std.proofs.lemmas.List.{take_rest}
-use Rattle.std.proofs.lemmas.Bool.{lt-ltb, le-ltb, ltb-true, leb-true, cases_lt, and_parts, and_from, both_ways}
+use Rattle.std.proofs.lemmas.Bool.{lt-ltb, le-ltb, cases_lt, and_from}
 use Rattle.format.specs.Elements.{all_bytes}
-use Rattle.encoding.specs.Numbers.{big_endian, number_size, number_bytes, four_bytes, value_of, numeric, Numbered}
+use Rattle.encoding.specs.Numbers.{big_endian, number_size, number_bytes, four_bytes, Numbered}
 
--- one more byte
-pub more_below : (v x i : ℕ) → v < 256 ^ i → x < 256 → v * 256 + x < 256 ^ (i + 1)
-more_below v x i h k = rw (add-one i, pow-suc 256 i) (omega arith)
-
-pub room_below : (v i : ℕ) → v < 256 ^ i → i < 4 → v < 2 ^ 24
-room_below v i h k = let l : i ≤ 3 = omega arith in omega (arith, pow-le-pow_right {n = 256} (omega arith) l)
+-- what bytes count to, the higher first
+abbrev value_of : List ℕ → ℕ
+value_of b = fold (λ n x. n * 256 + x) 0 b
 
 -- the bytes of a number, by how many they are
 module _ (P : ℕ → List ℕ → Type 0) (n : ℕ) where
@@ -34,11 +31,25 @@ value_back n h = by_size (λ k b. value_of b ≡ n) n h (λ j. omega arith) (λ 
 pub same_number : (n k : ℕ) → n < 2 ^ 32 → k < 2 ^ 32 → number_bytes n ≡ number_bytes k → n ≡ k
 same_number n k h g e = sym (value_back n h) ∙ ap value_of e ∙ value_back k g
 
-bytes_numeric : (n : ℕ) → n < 2 ^ 32 → numeric (number_bytes n) ≡ true
-bytes_numeric n h = by_size (λ k b. numeric b ≡ true) n h (λ j. refl) (λ i j. lt-ltb 0 (n / 256 % 256) (omega arith)) (λ i j. lt-ltb 0 (n / 256 / 256 % 256) (omega arith)) (λ i. lt-ltb 0 (n / 256 / 256 / 256 % 256) (omega arith))
+-- a number has from one to four bytes, and the first of several is not 0
+pub record Shaped (b : List ℕ) : Type 0 where
+  pub some : 1 ≤ length b
+  pub few : length b ≤ 4
+  pub least : 1 < length b → 0 < get_or b 0 0
+
+pub shaped : (n : ℕ) → n < 2 ^ 32 → Shaped (number_bytes n)
+shaped n h = by_size (λ k b. Shaped b) n h
+    (λ j. record { some = omega arith; few = omega arith; least = λ l. omega arith })
+    (λ i j. record { some = omega arith; few = omega arith; least = λ l. omega arith })
+    (λ i j. record { some = omega arith; few = omega arith; least = λ l. omega arith })
+    (λ i. record { some = omega arith; few = omega arith; least = λ l. omega arith })
+
+-- so bytes of another shape are no number's
+pub shaped_as : (b : List ℕ) (n : ℕ) → n < 2 ^ 32 → number_bytes n ≡ b → Shaped b
+shaped_as b n h e = subst Shaped e (shaped n h)
 
 pub few_bytes : (n : ℕ) → n < 2 ^ 32 → length (number_bytes n) ≤ 4
-few_bytes n h = by_size (λ k b. length b ≤ 4) n h (λ j. omega arith) (λ i j. omega arith) (λ i j. omega arith) (λ i. omega arith)
+few_bytes n h = (shaped n h).few
 
 all_more : (x : ℕ) (b : List ℕ) → x < 256 → all_bytes b ≡ true → all_bytes (x ∷ b) ≡ true
 unfolding all_bytes
@@ -102,16 +113,38 @@ module _ (x y z w : ℕ) (hx : x < 256) (hy : y < 256) (hz : z < 256) (hw : w < 
       let e : n % 256 ≡ w = omega arith in
       rw (le-ltb n (2 ^ 8) (omega arith), le-ltb n (2 ^ 16) (omega arith), le-ltb n (2 ^ 24) (omega arith)) (λ i. a i ∷ (b i ∷ (d i ∷ (e i ∷ []))))
 
-pub bytes_back : (b : List ℕ) → ((i : ℕ) → get_or b i 0 < 256) → numeric b ≡ true → number_bytes (value_of b) ≡ b
-bytes_back [] h e = absurd (both_ways false refl e)
-bytes_back (x ∷ []) h e = one_back x 0 0 0 (h 0) (omega arith) (omega arith) (omega arith)
-bytes_back (x ∷ (y ∷ [])) h e = two_back x y 0 0 (h 0) (h 1) (omega arith) (omega arith) (ltb-true 0 x e)
-bytes_back (x ∷ (y ∷ (z ∷ []))) h e = three_back x y z 0 (h 0) (h 1) (h 2) (omega arith) (ltb-true 0 x e)
-bytes_back (x ∷ (y ∷ (z ∷ (w ∷ [])))) h e = four_back x y z w (h 0) (h 1) (h 2) (h 3) (ltb-true 0 x e)
-bytes_back (x ∷ (y ∷ (z ∷ (w ∷ (v ∷ b))))) h e =
-    let long = length (x ∷ (y ∷ (z ∷ (w ∷ (v ∷ b))))) in
-    let few = (and_parts (leb 1 long) (leb long 4 && (eqb long 1 || ltb 0 x)) e).1 in
-    absurd (omega (arith, leb-true long 4 (and_parts (leb long 4) (eqb long 1 || ltb 0 x) few).0))
+-- bytes of each size, and what they are read as
+module _ (n : ℕ) where
+  pub one_number : (b : List ℕ) → ((i : ℕ) → get_or b i 0 < 256) → length b ≡ 1 → n ≡ get_or b 0 0 → Numbered b (Some n)
+  one_number [] h l e = absurd (omega arith)
+  one_number (x ∷ []) h l e =
+      let same : n ≡ value_of (x ∷ []) = omega arith in
+      (omega (arith, h 0), ap number_bytes same ∙ one_back x 0 0 0 (h 0) (omega arith) (omega arith) (omega arith))
+  one_number (x ∷ (y ∷ b)) h l e = absurd (omega arith)
 
-pub not_numeric : (b : List ℕ) → numeric b ≡ false → Numbered b None
-not_numeric b f n h e = both_ways (numeric b) f (subst (λ l. numeric l ≡ true) e (bytes_numeric n h))
+  pub two_number : (b : List ℕ) → ((i : ℕ) → get_or b i 0 < 256) → length b ≡ 2 → 0 < get_or b 0 0 → n ≡ from_be_bytes w32 (0 ∷ (0 ∷ (get_or b 0 0 ∷ (get_or b 1 0 ∷ [])))) → Numbered b (Some n)
+  two_number [] h l f e = absurd (omega arith)
+  two_number (x ∷ []) h l f e = absurd (omega arith)
+  two_number (x ∷ (y ∷ [])) h l f e =
+      let same : n ≡ value_of (x ∷ (y ∷ [])) = omega arith in
+      (omega (arith, h 0, h 1), ap number_bytes same ∙ two_back x y 0 0 (h 0) (h 1) (omega arith) (omega arith) f)
+  two_number (x ∷ (y ∷ (z ∷ b))) h l f e = absurd (omega arith)
+
+  pub three_number : (b : List ℕ) → ((i : ℕ) → get_or b i 0 < 256) → length b ≡ 3 → 0 < get_or b 0 0 → n ≡ from_be_bytes w32 (0 ∷ (get_or b 0 0 ∷ (get_or b 1 0 ∷ (get_or b 2 0 ∷ [])))) → Numbered b (Some n)
+  three_number [] h l f e = absurd (omega arith)
+  three_number (x ∷ []) h l f e = absurd (omega arith)
+  three_number (x ∷ (y ∷ [])) h l f e = absurd (omega arith)
+  three_number (x ∷ (y ∷ (z ∷ []))) h l f e =
+      let same : n ≡ value_of (x ∷ (y ∷ (z ∷ []))) = omega arith in
+      (omega (arith, h 0, h 1, h 2), ap number_bytes same ∙ three_back x y z 0 (h 0) (h 1) (h 2) (omega arith) f)
+  three_number (x ∷ (y ∷ (z ∷ (w ∷ b)))) h l f e = absurd (omega arith)
+
+  pub four_number : (b : List ℕ) → ((i : ℕ) → get_or b i 0 < 256) → length b ≡ 4 → 0 < get_or b 0 0 → n ≡ from_be_bytes w32 (get_or b 0 0 ∷ (get_or b 1 0 ∷ (get_or b 2 0 ∷ (get_or b 3 0 ∷ [])))) → Numbered b (Some n)
+  four_number [] h l f e = absurd (omega arith)
+  four_number (x ∷ []) h l f e = absurd (omega arith)
+  four_number (x ∷ (y ∷ [])) h l f e = absurd (omega arith)
+  four_number (x ∷ (y ∷ (z ∷ []))) h l f e = absurd (omega arith)
+  four_number (x ∷ (y ∷ (z ∷ (w ∷ [])))) h l f e =
+      let same : n ≡ value_of (x ∷ (y ∷ (z ∷ (w ∷ [])))) = omega arith in
+      (omega (arith, h 0, h 1, h 2, h 3), ap number_bytes same ∙ four_back x y z w (h 0) (h 1) (h 2) (h 3) f)
+  four_number (x ∷ (y ∷ (z ∷ (w ∷ (v ∷ b))))) h l f e = absurd (omega arith)

@@ -1,11 +1,14 @@
 -- A permit is well-formed, and is that of one certificate. Assumes nothing.
-use Rattle.std.proofs.Common.{◌≡◌, ℕ, suc, ◌-◌, ◌^◌, ◌<◌, Bool, true, false, List, [], ◌∷◌, ◌++◌, length, get_or, take, drop, Some, None, sym, refl, ap, ◌∙◌, subst, append_assoc, append-nil, arith}
+use Rattle.std.proofs.Common.{◌≡◌, ℕ, suc, ◌-◌, ◌^◌, ◌<◌, Bool, true, false, List, [], ◌∷◌, ◌++◌, length, get_or, take, drop, Some, None, is_ok, Ok, Err, Result, sym, refl, ap, ◌∙◌, subst, append_assoc, append-nil, arith}
+use Rattle.std.proofs.lemmas.Bool.{false≢true}
 use mir.Val.{bool_byte}
 use Rattle.format.specs.Elements.{Row, empty, primitive, framed, written, well_formed, Reads}
 use Rattle.format.proofs.Fronts.{same_front}
 use Rattle.format.proofs.Rows.{primitive_from, constructed_from, framed_size}
 use Rattle.trust.specs.Chains.{Certificate}
 use Rattle.element.specs.Judged.{longest}
+use Rattle.writer.specs.declared.WriteError.{WriteError}
+use Rattle.writer.specs.Appended.{Appended as Writes}
 use Rattle.encoding.specs.Numbers.{four_bytes, number_bytes, number_size}
 use Rattle.encoding.specs.Permits.{mark_bytes, fields_row, permit_row, permit_bytes, certificate_of, InRange}
 use Rattle.encoding.specs.Fields.{Appended}
@@ -80,13 +83,18 @@ pub permit_reads : PermitReads
 unfolding permit_row
 permit_reads c h = record { well = constructed_from 7 longest 128 (fields_row c) empty (omega arith) (omega arith) (omega (arith, fields_few c h)) (fields_well 7 c h) (end_well 8); writing = refl }
 
+-- what was written, where writing succeeded
+pub written_behind : (T C : Type 0) (tag : ℕ) (contents old new : List ℕ) (r : Result Unit WriteError) → Writes T C tag contents old new r → is_ok r ≡ true → new ≡ old ++ framed tag contents
+written_behind T C tag contents old new (Ok _) w e = w.3
+written_behind T C tag contents old new (Err _) w e = absurd (false≢true e)
+
 -- the element around the fields, written behind nothing
 pub permit_written : (c : Certificate) (v w fields : List ℕ) → v ≡ [] → fields ≡ written (fields_row c) → w ≡ v ++ framed 128 fields → w ≡ permit_bytes c
 permit_written c v w fields e f g = g ∙ (λ i. e i ++ framed 128 (f i)) ∙ sym (append-nil (framed 128 (written (fields_row c)))) ∙ sym (permit_is c)
 
 -- the part of the four bytes that a number is, written as a field
-pub number_written : (tag n size : ℕ) (bytes old new : List ℕ) → n < 2 ^ 32 → size ≡ number_size n → bytes ≡ four_bytes n → new ≡ old ++ framed tag (take (4 - (4 - size)) (drop (4 - size) bytes)) → Appended tag n old new
-number_written tag n size bytes old new h e f g = record { range = h; behind = g ∙ ap (λ l. old ++ framed tag l) (number_part n size bytes h e f) }
+pub number_written : (tag t n size : ℕ) (bytes old new : List ℕ) → t ≡ tag → n < 2 ^ 32 → size ≡ number_size n → bytes ≡ four_bytes n → new ≡ old ++ framed t (take (4 - (4 - size)) (drop (4 - size) bytes)) → Appended tag n old new
+number_written tag t n size bytes old new s h e f g = record { range = h; behind = g ∙ (λ i. old ++ framed (s i) (number_part n size bytes h e f i)) }
 
 -- a field more behind the bytes
 grown : (v w : List ℕ) (t n : ℕ) (ns : List ℕ) → w ≡ v ++ framed t (number_bytes n) → w ++ tagged (suc t) ns ≡ v ++ tagged t (n ∷ ns)

@@ -1,5 +1,5 @@
 -- The fields of a permit, one behind the other, and what is ahead behind some of them. Assumes nothing.
-use Rattle.std.proofs.Common.{◌≡◌, ℕ, zero, suc, ◌^◌, ◌<◌, Bool, true, false, cond, eqb, List, [], ◌∷◌, ◌++◌, length, get_or, drop, Some, None, Option, sym, refl, ap, ◌∙◌, arith, length-append}
+use Rattle.std.proofs.Common.{◌≡◌, ℕ, zero, suc, ◌^◌, ◌<◌, Bool, true, false, cond, eqb, List, [], ◌∷◌, ◌++◌, length, get_or, drop, Some, None, Option, sym, refl, ap, ◌∙◌, arith}
 use Rattle.std.proofs.lemmas.List.{nil_from_length}
 use Rattle.std.proofs.lemmas.Bool.{eqb-true, eqb-false}
 use Rattle.std.proofs.lemmas.Bool.Decides.{nat_tests}
@@ -9,6 +9,7 @@ use Rattle.trust.specs.Chains.{Certificate}
 use Rattle.path.specs.declared.walking.Cursor.{Cursor}
 use Rattle.path.specs.declared.walking.Element.{Element}
 use Rattle.path.specs.Cursors.{ahead, Passes}
+use Rattle.path.proofs.Walks.{split, same_end}
 use Rattle.encoding.specs.Numbers.{big_endian, number_bytes, Numbered}
 use Rattle.encoding.specs.Permits.{mark_bytes, marked, fields_row, InRange}
 use Rattle.encoding.specs.Fields.{Says, Field}
@@ -136,18 +137,14 @@ module _ {s c₁ : Cursor} {n₁ : ℕ} (one : Says s 1 n₁ c₁) where
                 ap (λ n. tagged 1 (n₁ ∷ (n₂ ∷ (n₃ ∷ (n₄ ∷ (n ∷ (n₆ ∷ []))))))) (sym (mark_bit n₅ m e))
                 ∙ said (n₂ ∷ (n₃ ∷ (n₄ ∷ (n₅ ∷ (n₆ ∷ []))))) one (said (n₃ ∷ (n₄ ∷ (n₅ ∷ (n₆ ∷ [])))) two (said (n₄ ∷ (n₅ ∷ (n₆ ∷ []))) three (said (n₅ ∷ (n₆ ∷ [])) four (said (n₆ ∷ []) five (said [] six (sym (nil_from_length (ahead c₆) (eqb-true (length (ahead c₆)) 0 none))))))))
 
--- the bytes that an element at the front of a cursor begins
-pub front_of : (c : Cursor) (e : Element) (after : Cursor) → Passes c e after → ahead c ≡ framed e.tag e.contents.now ++ ahead after
-front_of c e after p = p.front ∙ ap (λ l. l ++ ahead after) p.whole
-
--- what that element makes of the next field
+-- what the element at the front of a cursor makes of the next field
 module _ (c : Cursor) (e : Element) (after : Cursor) (p : Passes c e after) (tag : ℕ) where
   same_parts : (n : ℕ) (behind : List ℕ) → ahead c ≡ framed tag (number_bytes n) ++ behind → (e.tag ≡ tag) × (e.contents.now ≡ number_bytes n) × (ahead after ≡ behind)
-  same_parts n behind k = same_front e.tag tag e.contents.now (number_bytes n) (ahead after) behind (sym (front_of c e after p) ∙ k)
+  same_parts n behind k = same_front e.tag tag e.contents.now (number_bytes n) (ahead after) behind (sym (split p) ∙ k)
 
   pub field_read : e.tag ≡ tag → (r : Option ℕ) → Numbered e.contents.now r → Field c tag r after
   field_read same (Some n) h =
-      record { range = h.0; front = front_of c e after p ∙ (λ i. framed (same i) (sym h.1 i) ++ ahead after); end = omega (arith, p.on, ap length p.front, length-append e.whole.now (ahead after)) }
+      record { range = h.0; front = split p ∙ (λ i. framed (same i) (sym h.1 i) ++ ahead after); end = same_end p }
   field_read same None none = λ n behind h k. none n h (sym (same_parts n behind k).1)
 
   pub field_other : (e.tag ≡ tag → ⊥) → (n : ℕ) (behind : List ℕ) → ahead c ≡ framed tag (number_bytes n) ++ behind → ⊥

@@ -9,13 +9,14 @@ use Rattle.trust.specs.Chains.{Certificate}
 use Rattle.path.specs.declared.walking.Cursor.{Cursor}
 use Rattle.path.specs.declared.walking.Element.{Element}
 use Rattle.path.specs.Cursors.{ahead, Passes}
+use Rattle.path.proofs.Walks.{split}
 use Rattle.element.specs.Judged.{longest}
 use Rattle.encoding.specs.declared.Certificate.{Certificate as Held}
 use Rattle.encoding.specs.Numbers.{number_bytes}
 use Rattle.encoding.specs.Permits.{fields_row, permit_row, permit_bytes, certificate_of, InRange, Decoded}
 use Rattle.encoding.specs.Fields.{Fields}
 use Rattle.encoding.proofs.Digits.{few_bytes}
-use Rattle.encoding.proofs.Tails.{tagged, numbers_of, fields_are, below, front_of}
+use Rattle.encoding.proofs.Tails.{tagged, numbers_of, fields_are, below}
 
 pub permit_is : (c : Certificate) → permit_bytes c ≡ framed 128 (written (fields_row c)) ++ []
 unfolding written permit_row
@@ -46,7 +47,7 @@ no_element b none c h e = none 128 (written (fields_row c)) [] (omega (arith, fi
 -- what the element at the front makes of the bytes
 module _ (b : List ℕ) (s : Cursor) (e : Element) (after : Cursor) (start : ahead s ≡ b) (p : Passes s e after) where
   parts : (c : Certificate) → permit_bytes c ≡ b → (e.tag ≡ 128) × (e.contents.now ≡ written (fields_row c)) × (ahead after ≡ [])
-  parts c k = same_front e.tag 128 e.contents.now (written (fields_row c)) (ahead after) [] (sym (front_of s e after p) ∙ start ∙ sym k ∙ permit_is c)
+  parts c k = same_front e.tag 128 e.contents.now (written (fields_row c)) (ahead after) [] (sym (split p) ∙ start ∙ sym k ∙ permit_is c)
 
   pub other_tag : (e.tag ≡ 128 → ⊥) → NoPermit b
   other_tag other c h k = other (parts c k).0
@@ -59,5 +60,5 @@ module _ (b : List ℕ) (s : Cursor) (e : Element) (after : Cursor) (start : ahe
     whole (Some h) k =
         let none : ahead after ≡ [] = nil_from_length (ahead after) (eqb-true (length (ahead after)) 0 last) in
         let same : e.contents.now ≡ written (fields_row (certificate_of h)) = sym (k.1 ∙ within) in
-        (k.0, permit_is (certificate_of h) ∙ sym (λ i. framed (tag i) (same i) ++ none i) ∙ sym (front_of s e after p) ∙ start)
+        (k.0, permit_is (certificate_of h) ∙ sym (λ i. framed (tag i) (same i) ++ none i) ∙ sym (split p) ∙ start)
     whole None k = λ c h l. k c h (sym (within ∙ (parts c l).1))

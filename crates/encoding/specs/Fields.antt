@@ -1,9 +1,11 @@
 -- What reading the fields of a permit answers, and what it leaves. Assumes nothing: these are definitions.
-use Rattle.std.specs.Prelude.{◌≡◌, ℕ, ◌+◌, ◌^◌, ◌<◌, List, ◌++◌, length, Some, None, Option, ◌≢◌}
+use Rattle.std.specs.Prelude.{◌≡◌, ℕ, ◌+◌, ◌^◌, ◌<◌, List, ◌++◌, length, Some, None, Option, Ok, Err, Result, ◌≢◌}
 use Rattle.format.specs.Elements.{framed, written}
 use Rattle.trust.specs.Chains.{Certificate}
 use Rattle.path.specs.declared.walking.Cursor.{Cursor}
 use Rattle.path.specs.Cursors.{ahead}
+use Rattle.writer.specs.declared.WriteError.{WriteError}
+use Rattle.writer.specs.declared.WriteError.TheVariants.{Tag, Length, Contents, Memory}
 use Rattle.encoding.specs.declared.Certificate.{Certificate as Held}
 use Rattle.encoding.specs.Numbers.{number_bytes}
 use Rattle.encoding.specs.Permits.{fields_row, InRange, certificate_of}
@@ -23,6 +25,14 @@ Field c tag None after = (n : ℕ) (behind : List ℕ) → n < 2 ^ 32 → ahead 
 pub record Appended (tag n : ℕ) (old new : List ℕ) : Type 0 where
   pub range : n < 2 ^ 32
   pub behind : new ≡ old ++ framed tag (number_bytes n)
+
+-- what came of writing, if nothing but memory failed
+abbrev pub ByMemory : Result Unit WriteError → Type 0
+ByMemory (Ok _) = Unit
+ByMemory (Err Tag) = ⊥
+ByMemory (Err Length) = ⊥
+ByMemory (Err Contents) = ⊥
+ByMemory (Err (Memory _)) = Unit
 
 -- the certificate whose fields are ahead and nothing else, or none exactly if there is none
 abbrev pub Fields : Cursor → Option Held → Type 0

@@ -1,5 +1,5 @@
 -- Numbers as bytes. Assumes nothing: these are definitions.
-use Rattle.std.specs.Prelude.{◌≡◌, ℕ, zero, suc, ◌+◌, ◌*◌, ◌/◌, ◌%◌, ◌^◌, ◌<◌, Bool, cond, ◌&&◌, ◌||◌, List, [], ◌∷◌, ◌++◌, length, Some, None, fold, Option, ◌==◌, ◌≢◌, nat_le, nat_lt, slice_index}
+use Rattle.std.specs.Prelude.{◌≡◌, ℕ, zero, suc, ◌/◌, ◌%◌, ◌^◌, ◌<◌, cond, List, [], ◌∷◌, ◌++◌, Some, None, Option, ◌≢◌, nat_lt}
 
 -- a number in so many bytes, the higher first
 unfoldable pub big_endian : (size : ℕ) → ℕ → List ℕ
@@ -17,14 +17,6 @@ number_bytes n = big_endian (number_size n) n
 -- all four bytes of a number, the higher first
 abbrev pub four_bytes : ℕ → List ℕ
 four_bytes n = n / 2 ^ 24 % 256 ∷ (n / 2 ^ 16 % 256 ∷ (n / 2 ^ 8 % 256 ∷ (n % 256 ∷ [])))
-
--- what bytes count to, the higher first
-abbrev pub value_of : List ℕ → ℕ
-value_of b = fold (λ n x. n * 256 + x) 0 b
-
--- from one to four bytes, the first of which is not 0 unless it is the only one
-abbrev pub numeric : List ℕ → Bool
-numeric b = nat_le 1 (length b) && (nat_le (length b) 4 && (length b == 1 || nat_lt 0 (slice_index b 0)))
 
 -- the number that bytes are, or none exactly if they are none's
 abbrev pub Numbered : List ℕ → Option ℕ → Type 0

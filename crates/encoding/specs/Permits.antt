@@ -3,6 +3,8 @@ use Rattle.std.specs.Prelude.{◌≡◌, ℕ, ◌^◌, ◌<◌, Bool, true, fals
 use Rattle.format.specs.Elements.{Row, empty, primitive, constructed, written}
 use Rattle.trust.specs.Chains.{Certificate}
 use Rattle.encoding.specs.declared.Certificate.{Certificate as Held}
+use Rattle.encoding.specs.declared.Tag.{Tag}
+use Rattle.encoding.specs.declared.Tag.TheVariants.{Subject, Issuer, NotBefore, NotAfter, MayIssue, PathLen}
 use Rattle.encoding.specs.Numbers.{number_bytes}
 
 -- a yes or no is one byte, 1 or 0
@@ -12,6 +14,15 @@ mark_bytes b = cond b 1 0 ∷ []
 -- what a number says that stands for yes or no
 abbrev pub marked : ℕ → Option Bool
 marked n = cond (n == 0) (Some false) (cond (n == 1) (Some true) None)
+
+-- the number that a tag is
+abbrev pub tag_of : Tag → ℕ
+tag_of Subject = 1
+tag_of Issuer = 2
+tag_of NotBefore = 3
+tag_of NotAfter = 4
+tag_of MayIssue = 5
+tag_of PathLen = 6
 
 -- six fields with the tags 1 to 6, in that order
 unfoldable pub fields_row : Certificate → Row

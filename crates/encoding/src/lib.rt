@@ -1,6 +1,8 @@
 // Permits: the bytes of a certificate, and the certificate that bytes say.
 #![tactic(auto)]
 
+ghost use Rattle.std.specs.Prelude.{◌≡◌};
+ghost use Rattle.encoding.specs.Permits.{tag_of};
 ghost use Rattle.encoding.specs.Promise.{OnePermit, PermitReads, DecodesBack};
 
 mod numbering;
@@ -24,18 +26,26 @@ pub struct Certificate {
 impl Certificate {
     // The tag of the element that is a permit.
     pub const PERMIT: u8 = 128;
-    // The tag of the field that says the subject.
-    pub const SUBJECT: u8 = 1;
-    // The tag of the field that says the issuer.
-    pub const ISSUER: u8 = 2;
-    // The tag of the field that says the first day.
-    pub const NOT_BEFORE: u8 = 3;
-    // The tag of the field that says the last day.
-    pub const NOT_AFTER: u8 = 4;
-    // The tag of the field that says whether the subject may issue.
-    pub const MAY_ISSUE: u8 = 5;
-    // The tag of the field that says the path length.
-    pub const PATH_LEN: u8 = 6;
+}
+
+// The fields of a permit, in their order, by their tags.
+#[derive(Clone, Copy)]
+enum Tag {
+    Subject = 1,
+    Issuer = 2,
+    NotBefore = 3,
+    NotAfter = 4,
+    MayIssue = 5,
+    PathLen = 6,
+}
+
+impl Tag {
+    // The number that a tag is.
+    fn number(self) -> u8
+        ensures { result ≡ tag_of self }
+    {
+        self as u8
+    }
 }
 
 // Bytes are the permit of one certificate or of none.

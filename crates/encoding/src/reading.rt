@@ -1,11 +1,11 @@
 // Permits decoded.
-ghost use Rattle.std.specs.Prelude.{◌≡◌, ◌+◌, ◌^◌, ◌<◌, length, ◌==◌};
-ghost use Rattle.path.specs.Cursors.{ahead};
+ghost use Rattle.std.specs.Prelude.{◌≡◌, length, ◌==◌};
+ghost use Rattle.path.specs.Cursors.{PlacesFit, ahead};
 ghost use Rattle.encoding.specs.Fields.{Field, Fields};
-ghost use Rattle.encoding.specs.Permits.{Decoded, marked};
+ghost use Rattle.encoding.specs.Permits.{Decoded, marked, tag_of};
 
-use crate::Certificate;
-use crate::numbering::Number;
+use crate::numbering::read_number;
+use crate::{Certificate, Tag};
 use path::Cursor;
 
 // The certificate that the bytes say, if they are a permit and nothing else.
@@ -22,16 +22,16 @@ pub fn decode(bytes: &[u8]) -> Option<Certificate>
 
 // The certificate that the fields ahead say, if they are those of a permit and nothing else.
 fn fields(start: Cursor<'_>) -> Option<Certificate>
-    requires { start.at + length (ahead start) < 2 ^ 64 }
+    requires { PlacesFit start }
     ensures { Fields start.entry result }
 {
     let mut fields = start;
-    let subject = number(&mut fields, Certificate::SUBJECT)?;
-    let issuer = number(&mut fields, Certificate::ISSUER)?;
-    let not_before = number(&mut fields, Certificate::NOT_BEFORE)?;
-    let not_after = number(&mut fields, Certificate::NOT_AFTER)?;
-    let may_issue = mark(number(&mut fields, Certificate::MAY_ISSUE)?)?;
-    let path_len = number(&mut fields, Certificate::PATH_LEN)?;
+    let subject = number(&mut fields, Tag::Subject)?;
+    let issuer = number(&mut fields, Tag::Issuer)?;
+    let not_before = number(&mut fields, Tag::NotBefore)?;
+    let not_after = number(&mut fields, Tag::NotAfter)?;
+    let may_issue = mark(number(&mut fields, Tag::MayIssue)?)?;
+    let path_len = number(&mut fields, Tag::PathLen)?;
     if !at_end(&fields) {
         return None;
     }
@@ -46,22 +46,22 @@ fn fields(start: Cursor<'_>) -> Option<Certificate>
 }
 
 // The number that the next field says, if it has this tag and says one.
-fn number(fields: &mut Cursor<'_>, tag: u8) -> Option<u32>
-    requires { fields.old.at + length (ahead fields.old) < 2 ^ 64 }
-    ensures { Field fields.old tag result fields.new }
+fn number(fields: &mut Cursor<'_>, tag: Tag) -> Option<u32>
+    requires { PlacesFit fields.old }
+    ensures { Field fields.old (tag_of tag) result fields.new }
 {
     let field = fields.next()?;
-    if field.tag != tag {
+    if field.tag != tag.number() {
         return None;
     }
-    Number::read(field.contents)
+    read_number(field.contents)
 }
 
 // Whether nothing is ahead.
 fn at_end(cursor: &Cursor<'_>) -> bool
     ensures { result ≡ (length (ahead cursor.now) == 0) }
 {
-    cursor.rest.len() == 0
+    cursor.rest.is_empty()
 }
 
 // What a mark says: 0 no, 1 yes, and nothing else is a mark.

@@ -1,11 +1,11 @@
 // Permits encoded.
-ghost use Rattle.std.specs.Prelude.{◌≡◌, ◌<◌, IfOk, OnOk};
+ghost use Rattle.std.specs.Prelude.{◌≡◌, IsOk, IsErr, IfOk, OnOk, OnErr};
 ghost use Rattle.format.specs.Elements.{written};
-ghost use Rattle.encoding.specs.Fields.{Appended};
-ghost use Rattle.encoding.specs.Permits.{InRange, certificate_of, fields_row, permit_bytes};
+ghost use Rattle.encoding.specs.Fields.{Appended, ByMemory};
+ghost use Rattle.encoding.specs.Permits.{InRange, certificate_of, fields_row, permit_bytes, tag_of};
 
-use crate::Certificate;
-use crate::numbering::Number;
+use crate::numbering::{MAX_BYTES, size_of};
+use crate::{Certificate, Tag};
 use std::alloc::{AllocError, Global};
 use writer::{WriteError, append_constructed, append_primitive};
 
@@ -15,11 +15,8 @@ pub fn encode(heap: Global, c: &Certificate) -> Result<Vec<u8>, AllocError>
 {
     let fields = fields(heap, c)?;
     let mut out = Vec::new(heap);
-    match append_constructed(&mut out, Certificate::PERMIT, fields.as_slice()) {
-        Ok(()) => Ok(out),
-        Err(WriteError::Memory) => Err(AllocError),
-        Err(_) => unreachable(),
-    }
+    by_memory(append_constructed(&mut out, Certificate::PERMIT, &fields))?;
+    Ok(out)
 }
 
 // The fields of a certificate, one behind the other.
@@ -27,25 +24,33 @@ fn fields(heap: Global, c: &Certificate) -> Result<Vec<u8>, AllocError>
     ensures { IfOk result (λ v. InRange (certificate_of c.now) × (v.items ≡ written (fields_row (certificate_of c.now)))) }
 {
     let mut out = Vec::new(heap);
-    append_number(&mut out, Certificate::SUBJECT, c.subject)?;
-    append_number(&mut out, Certificate::ISSUER, c.issuer)?;
-    append_number(&mut out, Certificate::NOT_BEFORE, c.not_before)?;
-    append_number(&mut out, Certificate::NOT_AFTER, c.not_after)?;
-    append_number(&mut out, Certificate::MAY_ISSUE, u32::from(c.may_issue))?;
-    append_number(&mut out, Certificate::PATH_LEN, c.path_len)?;
+    append_number(&mut out, Tag::Subject, c.subject)?;
+    append_number(&mut out, Tag::Issuer, c.issuer)?;
+    append_number(&mut out, Tag::NotBefore, c.not_before)?;
+    append_number(&mut out, Tag::NotAfter, c.not_after)?;
+    append_number(&mut out, Tag::MayIssue, u32::from(c.may_issue))?;
+    append_number(&mut out, Tag::PathLen, c.path_len)?;
     Ok(out)
 }
 
 // Writes a field that says a number behind the bytes.
-fn append_number(out: &mut Vec<u8>, tag: u8, value: u32) -> Result<(), AllocError>
-    requires { tag < 128 }
-    ensures { OnOk result (Appended tag value out.old.items out.new.items) }
+fn append_number(out: &mut Vec<u8>, tag: Tag, value: u32) -> Result<(), AllocError>
+    ensures { OnOk result (Appended (tag_of tag) value out.old.items out.new.items) }
 {
-    let bytes = Number::bytes(value);
-    let start = Number::MAX_BYTES - Number::size(value);
-    match append_primitive(out, tag, &bytes[start..]) {
+    let bytes = value.to_be_bytes();
+    let start = MAX_BYTES - size_of(value);
+    by_memory(append_primitive(out, tag.number(), &bytes[start..]))
+}
+
+// What came of writing, where only memory can have failed.
+fn by_memory(done: Result<(), WriteError>) -> Result<(), AllocError>
+    requires { ByMemory done }
+    ensures ok { OnOk result (IsOk done) }
+    ensures err { OnErr result (IsErr done) }
+{
+    match done {
         Ok(()) => Ok(()),
-        Err(WriteError::Memory) => Err(AllocError),
+        Err(WriteError::Memory(error)) => Err(error),
         Err(_) => unreachable(),
     }
 }

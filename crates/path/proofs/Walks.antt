@@ -3,21 +3,28 @@ use Rattle.std.proofs.Common.{◌≡◌, ℕ, suc, ◌+◌, ◌-◌, ◌<◌, �
 use Rattle.std.specs.Iterator.{Yields, YieldsThen}
 use Rattle.std.specs.List.{flat_map}
 use Rattle.std.proofs.lemmas.List.{nil_from_length, drop_more, get_or_append_left, get_or_at}
-use Rattle.format.specs.Elements.{Row, empty, written, Reads}
+use Rattle.format.specs.Elements.{Row, empty, framed, written, Reads}
 use Rattle.format.specs.Paths.{nth, inside, at_path, before, header, place}
 use Rattle.format.proofs.Places.{at_path_empty, part_of_bytes}
-use Rattle.format.proofs.Readings.{same_reading}
 use Rattle.format.proofs.Walks.{Step, step, stop}
 use Rattle.path.specs.Cursors.{ahead, Passes, Next, CursorGives}
 use Rattle.element.specs.Judged.{deepest, longest}
-use Rattle.path.specs.Located.{Leads, Nowhere, Found, Piece, bytes_of}
+use Rattle.path.specs.Located.{Leads, Nowhere, Found}
 use Rattle.path.specs.declared.walking.Cursor.{Cursor}
 use Rattle.path.specs.declared.walking.Element.{Element}
 use Rattle.element.proofs.Openings.{front_of}
 
+-- what an element splits, at the front of the bytes before a cursor
+pub split : {c : Cursor} {e : Element} {after : Cursor} → Passes c e after → ahead c ≡ framed e.tag e.contents.now ++ ahead after
+split {after = after} p = p.front ∙ ap (λ l. l ++ ahead after) p.whole
+
+-- and where they end
+pub same_end : {c : Cursor} {e : Element} {after : Cursor} → Passes c e after → after.at + length (ahead after) ≡ c.at + length (ahead c)
+same_end {e = e} {after = after} p = omega (arith, p.on, ap length p.front, length-append e.whole.now (ahead after))
+
 -- one step of a cursor in a row
 stepped : (d : ℕ) (row : Row) (s : Cursor) (e : Element) (t : Cursor) → Reads d longest (ahead s) row → Passes s e t → Step d longest row e.tag e.contents.now (ahead t)
-stepped d row s e t h p = step d longest (ahead s) row h e.tag e.contents.now (ahead t) (p.front ∙ ap (λ l. l ++ ahead t) p.whole)
+stepped d row s e t h p = step d longest (ahead s) row h e.tag e.contents.now (ahead t) (split p)
 
 -- a cursor that has passed k elements of a row: the row that is left, whose elements and places are those behind
 pub record Passed (d : ℕ) (row : Row) (k from : ℕ) (t : Cursor) : Type 0 where
@@ -121,14 +128,23 @@ module _ (bytes path : List ℕ) (i : ℕ) (c : Cursor) (h : Led bytes path i c)
   }
 
   -- the last number leads to the element
-  pub led_found : length (drop (i + 1) path) ≡ 0 → (x : Element) (row : Row) → Reads deepest longest bytes row → ((d : ℕ) (left : Row) → Reads d longest (ahead c) left → Nth d left n c.at x) → Leads row path x.at x.whole.now
+  pub led_found : length (drop (i + 1) path) ≡ 0 → (x : Element) (row : Row) → Reads deepest longest bytes row → ((d : ℕ) (left : Row) → Reads d longest (ahead c) left → Nth d left n c.at x) → Leads bytes path x.at x.whole.now
   unfolding at_path place
   led_found none x row r f =
       let (d, left, reads, same, there) = h.on row r in
       let g = f d left reads in
       let last : drop i path ≡ n ∷ [] = e ∙ ap (λ l. n ∷ l) (nil_from_length (drop (i + 1) path) none) in
       let here : at_path row path ≡ nth left n = same ∙ ap (at_path left) last in
-      record { some = λ z. g.some (sym here ∙ z); there = omega (arith, g.there, there, ap (place left) last); is = g.is ∙ ap written (sym here) }
+      let at : x.at ≡ place row path = omega (arith, g.there, there, ap (place left) last) in
+      let is : x.whole.now ≡ written (at_path row path) = g.is ∙ ap written (sym here) in
+      record {
+        row = row;
+        reads = r;
+        some = λ z. g.some (sym here ∙ z);
+        there = at;
+        is = is;
+        part = is ∙ sym (part_of_bytes deepest longest bytes row path r) ∙ (λ j. take (length (sym is j)) (drop (sym at j) bytes));
+      }
 
   pub led_nothing : length (drop (i + 1) path) ≡ 0 → ((d : ℕ) (left : Row) → Reads d longest (ahead c) left → nth left n ≡ empty) → Nowhere bytes path
   unfolding at_path
@@ -139,9 +155,7 @@ module _ (bytes path : List ℕ) (i : ℕ) (c : Cursor) (h : Led bytes path i c)
 -- places stay within the bytes
 steps_near : (xs : List Element) (s t : Cursor) → Yields Next s xs t → t.at + length (ahead t) ≡ s.at + length (ahead s)
 steps_near [] s t e = ap (λ (c : Cursor). c.at + length (ahead c)) (sym e)
-steps_near (x ∷ xs) s t e =
-    let p = e.1 in
-    omega (arith, steps_near xs e.0 t e.2, p.on, ap length p.front, length-append x.whole.now (ahead e.0))
+steps_near (x ∷ xs) s t e = steps_near xs e.0 t e.2 ∙ same_end e.1
 
 -- what a cursor's `nth` gives, by the elements that it passes
 abbrev pub Ran : (n : ℕ) (s : Cursor) (r : Option Element) (u : Cursor) → Type 0
@@ -189,32 +203,12 @@ no_number path h row = ap (at_path row) (nil_from_length path h)
 -- the last number leads to what `nth` finds
 pub led_last : (bytes path : List ℕ) (i : ℕ) (c : Cursor) → Led bytes path i c → (n : ℕ) → drop i path ≡ n ∷ drop (i + 1) path → length (drop (i + 1) path) ≡ 0 → ((row : Row) × Reads deepest longest bytes row) → (r : Option Element) (u : Cursor) → Ran n c r u → Found bytes path r
 led_last bytes path i c h n e none whole None u ran = led_nothing bytes path i c h n e none (ran_none n c u ran)
-led_last bytes path i c h n e none whole (Some x) u ran = (whole.0, whole.1, led_found bytes path i c h n e none x whole.0 whole.1 (ran_some n c u x ran))
+led_last bytes path i c h n e none whole (Some x) u ran = led_found bytes path i c h n e none x whole.0 whole.1 (ran_some n c u x ran)
 
 -- nothing is within no element
 pub inside_none : {r : Row} → r ≡ empty → inside r ≡ empty
 unfolding inside
 inside_none e = ap inside e
-
--- what was found is the part of the bytes at its place
-found_part : (bytes path : List ℕ) (r : Option Element) → Found bytes path r → Piece bytes path (bytes_of r)
-unfolding written
-found_part bytes path (Some e) found =
-    let (row, reads, leads) = found in
-    let is : (other : Row) → Reads deepest longest bytes other → e.whole.now ≡ written (at_path other path) = λ other h. leads.is ∙ ap (λ r. written (at_path r path)) (sym (same_reading deepest longest bytes row other reads h)) in
-    record {
-      is = is;
-      there = λ other h. is other h ∙ sym (part_of_bytes deepest longest bytes other path h) ∙ ap (λ (w : List ℕ). take (length w) (drop (place other path) bytes)) (sym (is other h));
-      malformed = λ f. absurd (f row reads);
-    }
-found_part bytes path None f = record { is = λ row h. ap written (sym (f row h)); there = λ row h. refl; malformed = λ g. refl }
-
--- what `find` ensures
-abbrev pub Answered : (bytes path : List ℕ) (r : Option Element) → Type 0
-Answered bytes path r = record { found : Found bytes path r; part : Piece bytes path (bytes_of r) }
-
-pub answered : (bytes path : List ℕ) (r : Option Element) → Found bytes path r → Answered bytes path r
-answered bytes path r h = record { found = h; part = found_part bytes path r h }
 
 -- the elements that a cursor gives, one behind the other
 given_joined : (xs : List Element) (s t : Cursor) → Yields Next s xs t → ahead s ≡ flat_map (λ e. e.whole.now) xs ++ ahead t

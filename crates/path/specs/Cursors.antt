@@ -1,5 +1,5 @@
 -- What a cursor over a row of elements hands back and what it leaves. Assumes nothing: these are definitions.
-use Rattle.std.specs.Prelude.{◌≡◌, ℕ, ◌+◌, ◌≤◌, List, ◌++◌, length, Some, None, Option, ◌≢◌}
+use Rattle.std.specs.Prelude.{◌≡◌, ℕ, ◌+◌, ◌^◌, ◌<◌, ◌≤◌, List, ◌++◌, length, Some, None, Option, ◌≢◌}
 use Rattle.std.specs.Iterator.{YieldsThen}
 use Rattle.std.specs.List.{flat_map}
 use Rattle.format.specs.Elements.{Row, framed, Reads}
@@ -10,6 +10,10 @@ use Rattle.path.specs.declared.walking.Element.{Element}
 -- the bytes that a cursor has before it
 abbrev pub ahead : Cursor → List ℕ
 ahead c = c.rest.now
+
+-- the places in the bytes that a cursor has before it are numbers that fit
+abbrev pub PlacesFit : Cursor → Type 0
+PlacesFit c = c.at + length (ahead c) < 2 ^ 64
 
 -- an element that stands at the front of the bytes before a cursor, and the cursor behind it
 pub record Passes (c : Cursor) (e : Element) (after : Cursor) : Type 0 where
@@ -24,6 +28,11 @@ pub record Passes (c : Cursor) (e : Element) (after : Cursor) : Type 0 where
 abbrev pub Next : Cursor → Option Element → Cursor → Type 0
 Next c (Some e) after = Passes c e after
 Next c None after = (after ≡ c) × ((tag : ℕ) (contents behind : List ℕ) → length contents ≤ longest → ahead c ≢ framed tag contents ++ behind)
+
+-- a cursor before the first element within an element, or none exactly if the element is primitive
+abbrev pub RowOf : Element → Option Cursor → Type 0
+RowOf e (Some c) = (128 ≤ e.tag) × (ahead c ≡ e.contents.now) × (c.at ≡ e.contents_at)
+RowOf e None = e.tag < 128
 
 -- the elements that a cursor gives until it gives none, one behind the other, are the bytes of the row
 abbrev pub CursorGives : Type 0

@@ -1,8 +1,9 @@
 // Elements found by their paths.
-ghost use Rattle.path.specs.Located.{Found, Located, Piece, bytes_of};
+ghost use Rattle.std.specs.Prelude.{option_map};
+ghost use Rattle.path.specs.Located.{Found, Located, Piece};
 
 use crate::walking::{Cursor, Element};
-use element::{Reader, Verdict, judge};
+use element::{Verdict, judge};
 
 // Where an element stands in the bytes, and how many bytes it takes.
 #[derive(Clone, Copy)]
@@ -13,8 +14,7 @@ pub struct Span {
 
 // The element that a path leads to, if the bytes are a row of elements and it leads to one.
 pub fn find<'a>(bytes: &'a [u8], path: &[u64]) -> Option<Element<'a>>
-    ensures found { Found bytes.now path.now result }
-    ensures part { Piece bytes.now path.now (bytes_of result) }
+    ensures { Found bytes.now path.now result }
 {
     let Verdict::Well = judge(bytes) else {
         return None;
@@ -22,11 +22,7 @@ pub fn find<'a>(bytes: &'a [u8], path: &[u64]) -> Option<Element<'a>>
     let (last, outer) = path.split_last()?;
     let mut cursor = Cursor::new(bytes);
     for number in outer {
-        let element = cursor.nth(*number as usize)?;
-        if element.tag < Reader::CONSTRUCTED {
-            return None;
-        }
-        cursor = element.inside();
+        cursor = cursor.nth(*number as usize)?.row()?;
     }
     cursor.nth(*last as usize)
 }
@@ -42,12 +38,9 @@ pub fn locate(bytes: &[u8], path: &[u64]) -> Option<Span>
     })
 }
 
-// The element that a path leads to, as the part of the bytes that it is, or an empty part.
-pub fn piece<'a>(bytes: &'a [u8], path: &[u64]) -> &'a [u8]
-    ensures { Piece bytes.now path.now result.now }
+// The element that a path leads to, as the part of the bytes that it is, if it leads to one.
+pub fn piece<'a>(bytes: &'a [u8], path: &[u64]) -> Option<&'a [u8]>
+    ensures { Piece bytes.now path.now (option_map (λ part. part.now) result) }
 {
-    match find(bytes, path) {
-        Some(element) => element.whole,
-        None => &bytes[0..0],
-    }
+    find(bytes, path).map(|element| element.whole)
 }

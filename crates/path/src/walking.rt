@@ -1,6 +1,6 @@
 // A row of elements, walked along one by one.
-ghost use Rattle.std.specs.Prelude.{◌≡◌, ◌+◌, ◌^◌, ◌<◌, length};
-ghost use Rattle.path.specs.Cursors.{Next, ahead, CursorGives};
+ghost use Rattle.std.specs.Prelude.{◌≡◌, length};
+ghost use Rattle.path.specs.Cursors.{Next, PlacesFit, RowOf, ahead, CursorGives};
 ghost use Rattle.std.specs.Iterator.{at_most};
 
 use element::{Opening, Reader};
@@ -43,13 +43,22 @@ impl<'a> Element<'a> {
             at: self.contents_at,
         }
     }
+
+    // A cursor before the first element within, if the element is constructed.
+    pub fn row(&self) -> Option<Cursor<'a>>
+        ensures { RowOf self.now result }
+    {
+        if self.tag < Reader::CONSTRUCTED {
+            return None;
+        }
+        Some(self.inside())
+    }
 }
 
 impl<'a> Iterator for Cursor<'a> {
     type Item = Element<'a>;
 
-    // The places in the bytes are numbers that fit.
-    ghost can_next = { λ c. c.at + length (ahead c) < 2 ^ 64 };
+    ghost can_next = { PlacesFit };
 
     ghost next_gives = { Next };
 

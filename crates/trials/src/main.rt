@@ -6,7 +6,7 @@ mod draws;
 mod pools;
 mod tally;
 
-use bytes::{try_deep, try_long, try_short};
+use bytes::{draw_deep, draw_long, draw_short, try_strings};
 use draws::Draws;
 use pools::try_pools;
 use tally::Tally;
@@ -29,15 +29,28 @@ fn report(rt: &HostRuntime, kind: &str, so: &str, tally: &Tally) -> anyhow::Resu
 
 fn main(rt: HostRuntime) -> anyhow::Result<()> {
     let mut draws = Draws::new();
-    let short = try_short(&mut draws, STRINGS);
-    let long = try_long(&mut draws, STRINGS);
-    let deep = try_deep(&mut draws, STRINGS);
-    let pools = try_pools(&mut draws, POOLS);
-    report(&rt, "short strings", "well-formed", &short)?;
-    report(&rt, "long strings", "well-formed", &long)?;
-    report(&rt, "deep strings", "well-formed", &deep)?;
-    report(&rt, "pools", "with a chain", &pools)?;
-    let all = short.all() && long.all() && deep.all() && pools.all();
+    let tallies = [
+        (
+            "short strings",
+            "well-formed",
+            try_strings(&mut draws, STRINGS, draw_short),
+        ),
+        (
+            "long strings",
+            "well-formed",
+            try_strings(&mut draws, STRINGS, draw_long),
+        ),
+        (
+            "deep strings",
+            "well-formed",
+            try_strings(&mut draws, STRINGS, draw_deep),
+        ),
+        ("pools", "with a chain", try_pools(&mut draws, POOLS)),
+    ];
+    for (kind, so, tally) in &tallies {
+        report(&rt, kind, so, tally)?;
+    }
+    let all = tallies.iter().all(|(_, _, tally)| tally.all());
     println!(rt; "{}", if all { "all agree" } else { "DISAGREE" })?;
     Ok(())
 }

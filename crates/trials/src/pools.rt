@@ -5,155 +5,149 @@ use certificate::pool_rejection;
 use chain::judge_chain;
 use pool::PoolView;
 use shortest::{Answer, find_chain};
+use std::array;
 
 // A pool has at most so many certificates.
 const MOST: usize = 5;
 
-const NUMBERS: usize = 30;
-
 const SIGNATURES: usize = 25;
 
-// The numbers of `count` certificates, six each, a signature mark for each two and an anchor mark for each.
-#[derive(Drop)]
+// A certificate at a place is a trust anchor so many times of sixteen: the first is so seldom.
+const ANCHORS: [u8; MOST] = [1, 3, 5, 7, 9];
+
+// What a certificate says.
+#[derive(Clone, Copy)]
+struct Certificate {
+    subject: u32,
+    issuer: u32,
+    not_before: u32,
+    not_after: u32,
+    may_issue: bool,
+    path_len: u32,
+}
+
+impl Certificate {
+    // A certificate drawn: names from 1 to 3, days and path_len from 0 to 3.
+    fn draw(draws: &mut Draws) -> Certificate {
+        Certificate {
+            subject: u32::from(draws.below(3)) + 1,
+            issuer: u32::from(draws.below(3)) + 1,
+            not_before: u32::from(draws.below(4) / 3),
+            not_after: 3 - u32::from(draws.below(9) / 4),
+            may_issue: draws.below(8) > 0,
+            path_len: u32::from(draws.below(4)),
+        }
+    }
+
+    // Its six numbers.
+    fn numbers(self) -> [u32; 6] {
+        [
+            self.subject,
+            self.issuer,
+            self.not_before,
+            self.not_after,
+            u32::from(self.may_issue),
+            self.path_len,
+        ]
+    }
+}
+
+// The first `count` certificates, a signature mark for each two of them and an anchor mark for each.
+#[derive(Clone, Copy)]
 struct Pool {
     count: usize,
-    numbers: [u32; NUMBERS],
+    certificates: [Certificate; MOST],
     signatures: [u8; SIGNATURES],
     anchors: [u8; MOST],
 }
 
 impl Pool {
-    // A pool drawn: names from 1 to 3, days and path_len from 0 to 3; the first is seldom a trust anchor.
+    // A pool drawn.
     fn draw(draws: &mut Draws) -> Pool {
-        let mut numbers = [0; NUMBERS];
-        for i in 0..MOST {
-            numbers[6 * i] = (draws.next() % 3) as u32 + 1;
-            numbers[6 * i + 1] = (draws.next() % 3) as u32 + 1;
-            numbers[6 * i + 2] = (draws.next() % 4 / 3) as u32;
-            numbers[6 * i + 3] = 3 - (draws.next() % 9 / 4) as u32;
-            numbers[6 * i + 4] = (draws.next() % 8).min(1) as u32;
-            numbers[6 * i + 5] = (draws.next() % 4) as u32;
-        }
-        let mut signatures = [0; SIGNATURES];
-        for i in 0..SIGNATURES {
-            signatures[i] = (draws.next() % 8).min(1) as u8;
-        }
-        let mut anchors = [0; MOST];
-        for i in 0..MOST {
-            if draws.next() % 16 < 2 * i as u64 + 1 {
-                anchors[i] = 1;
-            }
-        }
+        let certificates = array::from_fn(|_| Certificate::draw(draws));
+        let signatures = array::from_fn(|_| draws.below(8).min(1));
+        let anchors = ANCHORS.map(|often| u8::from(draws.below(16) < often));
         Pool {
-            count: (draws.next() % 5) as usize + 1,
-            numbers,
+            count: usize::from(draws.below(5)) + 1,
+            certificates,
             signatures,
             anchors,
         }
     }
 
-    // A certificate's number, counted from its subject.
-    fn number(&self, i: usize, which: usize) -> u32 {
-        match self.numbers.get(i.saturating_mul(6).saturating_add(which)) {
-            Some(n) => *n,
-            None => 0,
-        }
-    }
-
     // Whether a may stand next above b, below which so many certificates stand.
-    fn above(&self, a: usize, b: usize, below: usize) -> bool {
-        let signed = match self
-            .signatures
-            .get(a.saturating_mul(self.count).saturating_add(b))
-        {
-            Some(mark) => *mark == 1,
-            None => false,
+    fn above(&self, a: usize, b: usize, below: u32) -> bool {
+        let mark = a.saturating_mul(self.count).saturating_add(b);
+        let (Some(issuer), Some(subject)) = (self.certificates.get(a), self.certificates.get(b))
+        else {
+            return false;
         };
-        signed
-            && self.number(a, 4) == 1
-            && self.number(a, 0) == self.number(b, 1)
-            && below <= self.number(a, 5) as usize
+        self.signatures.get(mark) == Some(&1)
+            && issuer.may_issue
+            && issuer.subject == subject.issuer
+            && below <= issuer.path_len
     }
 
-    // Whether a certificate is a trust anchor.
-    fn trusted(&self, a: usize) -> bool {
-        match self.anchors.get(a) {
-            Some(mark) => *mark == 1,
-            None => false,
+    // The least length of a chain up from a certificate below which `below` stand, if one has at most `fuel`.
+    fn least(&self, day: u32, a: usize, below: u32, fuel: usize) -> Option<usize> {
+        let certificate = self.certificates.get(a)?;
+        if fuel == 0 || day < certificate.not_before || day > certificate.not_after {
+            return None;
         }
-    }
-
-    // The least length of a chain up from a certificate below which `below` stand, 0 if none has at most `fuel`.
-    fn least(&self, day: u32, a: usize, below: usize, fuel: usize) -> usize {
-        if fuel == 0 || day < self.number(a, 2) || day > self.number(a, 3) {
-            return 0;
+        if self.anchors.get(a) == Some(&1) {
+            return Some(1);
         }
-        if self.trusted(a) {
-            return 1;
-        }
-        let mut best = 0usize;
+        let mut best = None;
         for b in 0..self.count {
             if self.above(b, a, below) {
                 let rest = self.least(day, b, below.saturating_add(1), fuel - 1);
-                let size = rest.saturating_add(1);
-                if rest > 0 && (best == 0 || size < best) {
-                    best = size;
-                }
+                best = best.into_iter().chain(rest).min();
             }
         }
-        best
+        best.map(|rest| rest.saturating_add(1))
     }
 }
 
-// The numbers in the output buffer, as they are judged.
-fn widened(out: &[u16; MOST]) -> [u64; MOST] {
-    let mut row = [0; MOST];
-    for i in 0..MOST {
-        row[i] = out[i] as u64;
-    }
-    row
-}
-
-// Whether the answer is a chain of the least length, or none if that is 0.
-fn agrees(pool: &Pool, day: u32, first: usize, least: usize) -> bool {
+// Whether the answer is a chain of the least length up from the first certificate, or none if there is none.
+fn agrees(pool: &Pool, day: u32, least: Option<usize>) -> bool {
     let n = pool.count.min(MOST);
-    let numbers = &pool.numbers[0..6 * n];
-    let signatures = &pool.signatures[0..n.saturating_mul(n).min(SIGNATURES)];
-    let anchors = &pool.anchors[0..n];
+    let numbers = pool.certificates.map(Certificate::numbers);
+    let numbers = &numbers.as_flattened()[..6 * n];
+    let signatures = &pool.signatures[..n.saturating_mul(n).min(SIGNATURES)];
+    let anchors = &pool.anchors[..n];
     let mut out = [0; MOST];
     let answer = find_chain(
         n as u64,
         numbers,
         signatures,
         anchors,
-        day as u64,
-        first as u64,
-        &mut out[0..n],
+        u64::from(day),
+        0,
+        &mut out[..n],
     );
     let size = match answer {
         Answer::Chain(size) => size,
-        Answer::NoChain => return least == 0,
+        Answer::NoChain => return least.is_none(),
         Answer::Rejected(_) => return false,
     };
-    if size != least || size > MOST {
+    if Some(size) != least || size > MOST {
         return false;
     }
-    let row = widened(&out);
-    if let Some(_) = pool_rejection(n as u64, numbers, signatures, anchors) {
+    if pool_rejection(n as u64, numbers, signatures, anchors).is_some() {
         return false;
     }
     let view = PoolView::new(n as u64, numbers, signatures, anchors);
-    judge_chain(&view, day as u64, first as u64, &row[0..size])
+    judge_chain(&view, u64::from(day), 0, &out.map(u64::from)[..size])
 }
 
 // Draws pools and tries them.
 pub(crate) fn try_pools(draws: &mut Draws, many: usize) -> Tally {
-    let mut tally = Tally::new();
+    let mut tally = Tally::default();
     for _ in 0..many {
         let pool = Pool::draw(draws);
-        let day = (draws.next() % 4) as u32;
+        let day = u32::from(draws.below(4));
         let least = pool.least(day, 0, 0, pool.count);
-        tally.add(least > 0, agrees(&pool, day, 0, least));
+        tally.add(least.is_some(), agrees(&pool, day, least));
     }
     tally
 }

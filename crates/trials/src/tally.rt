@@ -1,5 +1,5 @@
 // How many trials there were, how many of them had what was sought, and in how many all agreed.
-#[derive(Clone, Copy)]
+#[derive(Clone, Copy, Default)]
 pub struct Tally {
     pub tried: usize,
     pub found: usize,
@@ -7,23 +7,11 @@ pub struct Tally {
 }
 
 impl Tally {
-    pub(crate) fn new() -> Tally {
-        Tally {
-            tried: 0,
-            found: 0,
-            agreed: 0,
-        }
-    }
-
     // Counts a trial.
     pub(crate) fn add(&mut self, found: bool, agreed: bool) {
         self.tried = self.tried.saturating_add(1);
-        if found {
-            self.found = self.found.saturating_add(1);
-        }
-        if agreed {
-            self.agreed = self.agreed.saturating_add(1);
-        }
+        self.found = self.found.saturating_add(usize::from(found));
+        self.agreed = self.agreed.saturating_add(usize::from(agreed));
     }
 
     // Whether all agreed in each trial.

@@ -11,7 +11,7 @@ Appended T C tag contents old new (Ok _) = T × (length contents ≤ longest) ×
 Appended T C tag contents old new (Err Tag) = (T → ⊥) × (new ≡ old)
 Appended T C tag contents old new (Err Length) = T × (longest < length contents) × (new ≡ old)
 Appended T C tag contents old new (Err Contents) = T × (length contents ≤ longest) × (C → ⊥) × (new ≡ old)
-Appended T C tag contents old new (Err Memory) = T × (length contents ≤ longest) × C × (new ≡ old)
+Appended T C tag contents old new (Err (Memory _)) = T × (length contents ≤ longest) × C × (new ≡ old)
 
 -- a primitive element: any bytes are its contents
 abbrev pub AppendedPrimitive : (tag : ℕ) → (contents old new : List ℕ) → Result Unit WriteError → Type 0

@@ -1,9 +1,9 @@
 // Elements written behind the bytes of a vector.
 #![tactic(auto)]
 
-ghost use Rattle.std.specs.Prelude.{◌≡◌, ◌≤◌, true, ◌++◌, length, take, is_ok, if◌then◌else◌, vec_len};
-ghost use Rattle.format.specs.Elements.{framed};
-ghost use Rattle.writer.specs.Appended.{AppendedPrimitive, AppendedConstructed};
+ghost use Rattle.std.specs.Prelude.{◌≡◌, take, is_ok, if◌then◌else◌, vec_len};
+ghost use Rattle.writer.specs.Appended.{Appended, AppendedPrimitive, AppendedConstructed};
+ghost use Rattle.writer.specs.declared.WriteError.TheVariants.{Memory};
 
 use element::Reader;
 use length::Length;
@@ -19,27 +19,37 @@ pub enum WriteError {
     // The contents are no row of elements, or too deep.
     Contents,
     // There is no memory.
-    Memory,
+    Memory(AllocError),
+}
+
+impl From<AllocError> for WriteError {
+    ghost from_gives = { λ error e. e ≡ Memory error };
+
+    fn from(error: AllocError) -> WriteError {
+        WriteError::Memory(error)
+    }
 }
 
 // Writes the parts of an element one after the other; where memory fails, some of them may stand there.
-fn append_parts(out: &mut Vec<u8>, tag: u8, size: u16, contents: &[u8]) -> Result<(), AllocError>
-    requires { size ≡ length contents.now }
-    ensures front { take (vec_len out.old) out.new.items ≡ out.old.items }
-    ensures items { is_ok result ≡ true → out.new.items ≡ out.old.items ++ framed tag contents.now }
+#[tactic(auto, unfolding(format::specs::Elements::framed))]
+fn append_parts(out: &mut Vec<u8>, tag: u8, contents: &[u8]) -> Result<(), WriteError>
+    ensures { Appended Unit Unit tag contents.now out.old.items (if is_ok result then out.new.items else take (vec_len out.old) out.new.items) result }
 {
-    out.push(tag)?;
+    let Ok(size) = u16::try_from(contents.len()) else {
+        return Err(WriteError::Length);
+    };
+    out.extend_from_slice(&[tag])?;
     Length::append(out, size)?;
-    out.extend_from_slice(contents)
+    out.extend_from_slice(contents)?;
+    Ok(())
 }
 
-// Writes an element behind the bytes; where memory fails they are as they were.
-fn append_element(out: &mut Vec<u8>, tag: u8, size: u16, contents: &[u8]) -> Result<(), AllocError>
-    requires { size ≡ length contents.now }
-    ensures { out.new.items ≡ (if is_ok result then out.old.items ++ framed tag contents.now else out.old.items) }
+// Writes an element behind the bytes, if its contents are not too long.
+fn append_element(out: &mut Vec<u8>, tag: u8, contents: &[u8]) -> Result<(), WriteError>
+    ensures { Appended Unit Unit tag contents.now out.old.items out.new.items result }
 {
     let before = out.len();
-    let done = append_parts(out, tag, size, contents);
+    let done = append_parts(out, tag, contents);
     if done.is_err() {
         out.truncate(before);
     }
@@ -53,13 +63,7 @@ pub fn append_primitive(out: &mut Vec<u8>, tag: u8, contents: &[u8]) -> Result<(
     if tag >= Reader::CONSTRUCTED {
         return Err(WriteError::Tag);
     }
-    if contents.len() > Reader::MAX_LENGTH {
-        return Err(WriteError::Length);
-    }
-    match append_element(out, tag, contents.len() as u16, contents) {
-        Ok(()) => Ok(()),
-        Err(_) => Err(WriteError::Memory),
-    }
+    append_element(out, tag, contents)
 }
 
 // Writes a constructed element, whose contents are the bytes of a row, behind the bytes.
@@ -69,14 +73,9 @@ pub fn append_constructed(out: &mut Vec<u8>, tag: u8, row: &[u8]) -> Result<(), 
     if tag < Reader::CONSTRUCTED {
         return Err(WriteError::Tag);
     }
-    if row.len() > Reader::MAX_LENGTH {
-        return Err(WriteError::Length);
-    }
-    if !Reader::row(row, Reader::MAX_DEPTH - 1) {
+    // Contents that are too long are not read: they are refused for that.
+    if row.len() <= Reader::MAX_LENGTH && !Reader::row(row, Reader::MAX_DEPTH - 1) {
         return Err(WriteError::Contents);
     }
-    match append_element(out, tag, row.len() as u16, row) {
-        Ok(()) => Ok(()),
-        Err(_) => Err(WriteError::Memory),
-    }
+    append_element(out, tag, row)
 }
