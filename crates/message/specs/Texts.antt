@@ -1,5 +1,6 @@
 -- The texts of the answers. Assumes nothing: these are definitions.
-use Rattle.std.specs.Prelude.{◌≡◌, ℕ, ◌*◌, ◌/◌, ◌%◌, Bool, cond, List, [], ◌∷◌, ◌++◌, replicate, codes, decimal, Result, MatchResult}
+use Rattle.std.specs.Prelude.{◌≡◌, ℕ, ◌*◌, ◌/◌, ◌%◌, List, [], ◌∷◌, ◌++◌, replicate, codes, decimal, Option, Result, MatchResult}
+use Rattle.std.specs.Option.{unwrap_or}
 use Rattle.std.specs.List.{flat_map}
 use Rattle.std.specs.Char.{digit_char}
 
@@ -44,9 +45,9 @@ bytes_text bs = spaced hex_text bs ++ line_feed
 abbrev pub indent : ℕ → List ℕ
 indent level = replicate (2 * level) 32
 
--- `  01 41`: an element at its level, by its tag and, if it is primitive, its contents
-abbrev pub element_text : (level tag : ℕ) → List ℕ → (constructed : Bool) → List ℕ
-element_text level tag contents constructed = indent level ++ bytes_text (tag ∷ cond constructed [] contents)
+-- `  01 41`: an element at its level, by its tag and its contents; none of a constructed one
+abbrev pub element_text : (level tag : ℕ) → (contents : Option (List ℕ)) → List ℕ
+element_text level tag contents = indent level ++ bytes_text (tag ∷ unwrap_or contents [])
 
 -- new bytes that begin with the old
 abbrev pub Begins : (old new : List ℕ) → Type 0

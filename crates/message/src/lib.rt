@@ -1,20 +1,22 @@
 // The texts of the answers, put behind the bytes of a vector.
 #![tactic(auto)]
 
-ghost use Rattle.std.specs.Prelude.{◌≡◌, ◌<◌, ◌∷◌, ◌++◌, decimal};
+ghost use Rattle.std.specs.Prelude.{◌≡◌, ◌<◌, ◌∷◌, ◌++◌, ℕ, List, decimal};
 ghost use Rattle.std.specs.Char.{digit_char};
-ghost use Rattle.message.specs.Texts.{line_feed, hex_text, indent, chain_text, none_text, refusal_text, ill_text, bytes_text, element_text, Appends};
+ghost use Rattle.std.specs.Option.{option_map};
+ghost use Rattle.message.specs.Texts.{line_feed, hex_text, blank_before, spaced, indent, chain_text, none_text, refusal_text, ill_text, bytes_text, element_text, Appends};
 
+use itoa::Buffer;
 use std::alloc::AllocError;
 
-const TEN: u64 = 10;
+// A number of a row: a `u16` stands in base ten, a `u8` in two digits of base sixteen.
+trait Figure: Copy {
+    ghost text: { Self → List ℕ };
 
-const SIXTEEN: u8 = 16;
-
-// What the digit `a` is in base sixteen.
-const DIGIT_A: u8 = 10;
-// The most digits of a number below 2 ^ 64.
-const MOST_DIGITS: usize = 20;
+    // Puts its text behind the others.
+    fn push(self, out: &mut Vec<u8>) -> Result<(), AllocError>
+        ensures { Appends result out.old.items (text self) out.new.items };
+}
 
 // Puts some bytes behind the others.
 fn push_text(out: &mut Vec<u8>, text: &[u8]) -> Result<(), AllocError>
@@ -34,17 +36,7 @@ fn end_line(out: &mut Vec<u8>) -> Result<(), AllocError>
 fn push_decimal(out: &mut Vec<u8>, n: u64) -> Result<(), AllocError>
     ensures { Appends result out.old.items (decimal n) out.new.items }
 {
-    let mut digits = [0u8; MOST_DIGITS];
-    let mut at = MOST_DIGITS;
-    let mut left = n;
-    while left >= TEN {
-        at -= 1;
-        digits[at] = b'0' + (left % TEN) as u8;
-        left /= TEN;
-    }
-    at -= 1;
-    digits[at] = b'0' + left as u8;
-    push_text(out, &digits[at..])
+    push_text(out, Buffer::new().format(n).as_bytes())
 }
 
 // A text and a number behind it.
@@ -82,42 +74,52 @@ fn hex_char(d: u8) -> u8
     requires { d < 16 }
     ensures { result ≡ digit_char d }
 {
-    if d < DIGIT_A {
-        b'0' + d
-    } else {
-        b'a' + (d - DIGIT_A)
+    char::from_digit(u32::from(d), 16).unwrap() as u8
+}
+
+impl Figure for u16 {
+    ghost text = { decimal };
+
+    fn push(self, out: &mut Vec<u8>) -> Result<(), AllocError> {
+        push_decimal(out, u64::from(self))
     }
 }
 
-// A text and a byte behind it, in base sixteen.
-fn push_hex(out: &mut Vec<u8>, before: &[u8], b: u8) -> Result<(), AllocError>
-    ensures { Appends result out.old.items (before.now ++ hex_text b) out.new.items }
-{
-    push_text(out, before)?;
-    let digits = [hex_char(b / SIXTEEN), hex_char(b % SIXTEEN)];
-    push_text(out, &digits)
+impl Figure for u8 {
+    ghost text = { hex_text };
+
+    fn push(self, out: &mut Vec<u8>) -> Result<(), AllocError> {
+        push_text(out, &[hex_char(self / 16), hex_char(self % 16)])
+    }
 }
 
-// A line of numbers with one blank between.
-fn push_numbers(out: &mut Vec<u8>, first: u16, rest: &[u16]) -> Result<(), AllocError>
-    ensures { Appends result out.old.items (chain_text (first ∷ rest.now)) out.new.items }
+// A blank and a figure behind it.
+fn push_next<F: Figure>(out: &mut Vec<u8>, figure: F) -> Result<(), AllocError>
+    ensures { Appends result out.old.items (blank_before F.text figure) out.new.items }
 {
-    push_decimal(out, first as u64)?;
-    for n in rest {
-        push_number(out, b" ", *n as u64)?;
+    push_text(out, b" ")?;
+    figure.push(out)
+}
+
+// A line of figures with one blank between.
+fn push_row<F: Figure>(out: &mut Vec<u8>, first: F, rest: &[F]) -> Result<(), AllocError>
+    ensures { Appends result out.old.items (spaced F.text (first ∷ rest.now) ++ line_feed) out.new.items }
+{
+    first.push(out)?;
+    for figure in rest {
+        push_next(out, *figure)?;
     }
     end_line(out)
 }
 
-// A line of bytes in base sixteen with one blank between.
-fn push_line(out: &mut Vec<u8>, first: u8, rest: &[u8]) -> Result<(), AllocError>
-    ensures { Appends result out.old.items (bytes_text (first ∷ rest.now)) out.new.items }
+// The same of a row that may be empty.
+fn append_row<F: Figure>(out: &mut Vec<u8>, row: &[F]) -> Result<(), AllocError>
+    ensures { Appends result out.old.items (spaced F.text row.now ++ line_feed) out.new.items }
 {
-    push_hex(out, b"", first)?;
-    for b in rest {
-        push_hex(out, b" ", *b)?;
+    match row {
+        [] => end_line(out),
+        [first, rest @ ..] => push_row(out, *first, rest),
     }
-    end_line(out)
 }
 
 // Two blanks for each level.
@@ -134,45 +136,27 @@ fn push_indent(out: &mut Vec<u8>, level: usize) -> Result<(), AllocError>
 pub fn append_chain(out: &mut Vec<u8>, row: &[u16]) -> Result<(), AllocError>
     ensures { Appends result out.old.items (chain_text row.now) out.new.items }
 {
-    let [first, rest @ ..] = row else {
-        return end_line(out);
-    };
-    push_numbers(out, *first, rest)
+    append_row(out, row)
 }
 
 // `02 00`: bytes.
 pub fn append_bytes(out: &mut Vec<u8>, bytes: &[u8]) -> Result<(), AllocError>
     ensures { Appends result out.old.items (bytes_text bytes.now) out.new.items }
 {
-    match bytes {
-        [] => end_line(out),
-        [first, rest @ ..] => push_line(out, *first, rest),
-    }
+    append_row(out, bytes)
 }
 
-// An element at its level: its tag and the bytes that are shown of it.
-fn push_element(out: &mut Vec<u8>, level: usize, tag: u8, shown: &[u8]) -> Result<(), AllocError>
-    ensures { Appends result out.old.items (indent level ++ bytes_text (tag ∷ shown.now)) out.new.items }
-{
-    push_indent(out, level)?;
-    push_line(out, tag, shown)
-}
-
-// `  01 41`: an element at its level, by its tag and, if it is primitive, its contents.
+// `  01 41`: an element at its level, by its tag and its contents; none of a constructed one.
 pub fn append_element(
     out: &mut Vec<u8>,
     level: usize,
     tag: u8,
-    contents: &[u8],
-    constructed: bool,
+    contents: Option<&[u8]>,
 ) -> Result<(), AllocError>
-    ensures { Appends result out.old.items (element_text level tag contents.now constructed) out.new.items }
+    ensures { Appends result out.old.items (element_text level tag (option_map (λ c. c.now) contents.entry)) out.new.items }
 {
-    if constructed {
-        push_element(out, level, tag, b"")
-    } else {
-        push_element(out, level, tag, contents)
-    }
+    push_indent(out, level)?;
+    push_row(out, tag, contents.unwrap_or(&[]))
 }
 
 // `none`

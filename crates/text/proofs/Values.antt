@@ -1,9 +1,11 @@
 -- Numbers and bytes, one word, digit or byte at a time. Assumes nothing.
-use Rattle.std.proofs.Common.{◌≡◌, ℕ, ◌+◌, ◌-◌, ◌*◌, ◌<◌, ◌≤◌, Bool, true, false, cond, ◌&&◌, eqb, ltb, leb, List, [], ◌∷◌, ◌++◌, length, get_or, drop, Some, None, Option, sym, refl, ap, ◌∙◌, append_assoc, append-nil, arith}
+use Rattle.std.proofs.Common.{◌≡◌, ℕ, ◌+◌, ◌-◌, ◌*◌, ◌<◌, ◌≤◌, Bool, true, false, cond, ◌&&◌, eqb, ltb, leb, List, [], ◌∷◌, ◌++◌, length, get_or, drop, Some, None, Option, Ok, Err, is_err, Result, sym, refl, ap, ◌∙◌, append_assoc, append-nil, arith}
 use Rattle.std.specs.Option.{option_map}
 use Rattle.std.proofs.lemmas.List.{at_drop_more, at_drop_all}
 use Rattle.std.proofs.lemmas.Bool.{le-ltb, lt-ltb, ltb-true, ltb-false}
-use Rattle.text.specs.Figures.{both, with_digit, decimal_after, below, number, numbers, hex_pair, word_bytes, bytes_of}
+use Rattle.text.specs.declared.error.LineError.{LineError}
+use Rattle.text.specs.Reads.{Reads}
+use Rattle.text.specs.Figures.{both, with_digit, decimal_after, below, number, hex_pair, word_bytes, bytes_of, all_of}
 
 module _ (limit : ℕ) where
   -- a number that has reached the limit stays there
@@ -108,18 +110,18 @@ onto_append xs ys None = refl
 onto_append xs ys (Some zs) = ap Some (sym (append_assoc xs ys zs))
 
 -- words: one more, one that can't be read, none left
-module _ (limit : ℕ) (xs : List ℕ) (ws : List (List ℕ)) where
-  pub numbers_more : (w : List ℕ) (rest : List (List ℕ)) (n : ℕ) (ys : List ℕ) → ws ≡ w ∷ rest → Some n ≡ number limit w → ys ≡ xs ++ n ∷ [] → onto xs (numbers limit ws) ≡ onto ys (numbers limit rest)
-  unfolding numbers
-  numbers_more w rest n ys is e more = ap (λ l. onto xs (numbers limit l)) is ∙ ap (λ o. onto xs (both ◌∷◌ o (numbers limit rest))) (sym e) ∙ onto_push xs n (numbers limit rest) ∙ ap (λ l. onto l (numbers limit rest)) (sym more)
+module _ {X : Type 0} (value : List ℕ → Option X) (xs : List X) (ws : List (List ℕ)) where
+  pub all_more : (w : List ℕ) (rest : List (List ℕ)) (x : X) (ys : List X) → ws ≡ w ∷ rest → value w ≡ Some x → ys ≡ xs ++ x ∷ [] → onto xs (all_of value ws) ≡ onto ys (all_of value rest)
+  unfolding all_of
+  all_more w rest x ys is e more = ap (λ l. onto xs (all_of value l)) is ∙ ap (λ o. onto xs (both ◌∷◌ o (all_of value rest))) e ∙ onto_push xs x (all_of value rest) ∙ ap (λ l. onto l (all_of value rest)) (sym more)
 
-  pub numbers_fail : (w : List ℕ) (rest : List (List ℕ)) → ws ≡ w ∷ rest → None ≡ number limit w → onto xs (numbers limit ws) ≡ None
-  unfolding numbers
-  numbers_fail w rest is e = ap (λ l. onto xs (numbers limit l)) is ∙ ap (λ o. onto xs (both ◌∷◌ o (numbers limit rest))) (sym e)
+  pub all_fail : (w : List ℕ) (rest : List (List ℕ)) → ws ≡ w ∷ rest → value w ≡ None → onto xs (all_of value ws) ≡ None
+  unfolding all_of
+  all_fail w rest is e = ap (λ l. onto xs (all_of value l)) is ∙ ap (λ o. onto xs (both ◌∷◌ o (all_of value rest))) e
 
-  pub numbers_end : ws ≡ [] → onto xs (numbers limit ws) ≡ Some xs
-  unfolding numbers
-  numbers_end is = ap (λ l. onto xs (numbers limit l)) is ∙ onto_end xs
+  pub all_end : ws ≡ [] → onto xs (all_of value ws) ≡ Some xs
+  unfolding all_of
+  all_end is = ap (λ l. onto xs (all_of value l)) is ∙ onto_end xs
 
 module _ (xs : List ℕ) (ws : List (List ℕ)) where
   pub bytes_more : (w : List ℕ) (rest : List (List ℕ)) (ys : List ℕ) → ws ≡ w ∷ rest → onto xs (word_bytes w) ≡ Some ys → onto xs (bytes_of ws) ≡ onto ys (bytes_of rest)
@@ -160,3 +162,8 @@ unfolding word_bytes
 pair_end xs [] lt = onto_end xs
 pair_end xs (h ∷ []) lt = refl
 pair_end xs (h ∷ (l ∷ w)) lt = absurd (omega arith)
+
+-- nothing is said where a reading fails
+pub reads_none : {T X : Type 0} (shows : T → X) (r : Result T LineError) (said : Option X) → is_err r ≡ true → said ≡ None → Reads shows r said
+reads_none shows (Ok x) said err none = cc
+reads_none shows (Err e) said err none = λ _. none

@@ -49,7 +49,11 @@ unfoldable pub bytes_of : List (List ℕ) → Option (List ℕ)
 bytes_of [] = Some []
 bytes_of (w ∷ ws) = both ◌++◌ (word_bytes w) (bytes_of ws)
 
+-- the values of all words, each by the same function, if each word has one
+unfoldable pub all_of : {X : Type 0} → (List ℕ → Option X) → List (List ℕ) → Option (List X)
+all_of value [] = Some []
+all_of value (w ∷ ws) = both ◌∷◌ (value w) (all_of value ws)
+
 -- the numbers that words write, each below a limit
 unfoldable pub numbers : (limit : ℕ) → List (List ℕ) → Option (List ℕ)
-numbers limit [] = Some []
-numbers limit (w ∷ ws) = both ◌∷◌ (number limit w) (numbers limit ws)
+numbers limit ws = all_of (number limit) ws

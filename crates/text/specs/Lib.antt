@@ -1,3 +1,4 @@
 pub mod Figures
 pub mod Meaning
 pub mod Promise
+pub mod Reads

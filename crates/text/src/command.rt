@@ -1,15 +1,14 @@
 // A line read as a command.
-ghost use Rattle.std.specs.Prelude.{◌≡◌, IfOk};
+ghost use Rattle.std.specs.Prelude.{◌≡◌};
 ghost use Rattle.std.specs.Option.{option_map};
-ghost use Rattle.std.specs.Str.{bytes_eq};
-ghost use Rattle.text.specs.Meaning.{comment, key_of, only_number, day_of, chain_of, piece_of, words_say, meaning, says};
+ghost use Rattle.text.specs.Meaning.{key_of, only_number, day_of, chain_of, piece_of, words_say, meaning, says};
+ghost use Rattle.text.specs.Reads.{Reads};
 ghost use Rattle.tokens.specs.Pieces.{words as words_of};
 
+use crate::error::LineError;
 use crate::figures::{parse_number, read_bytes, read_marks, read_numbers};
-use std::alloc::{AllocError, Global};
+use std::alloc::Global;
 use tokens::Words;
-
-const COMMENT: u8 = b'#';
 
 // What a line says.
 #[derive(Drop)]
@@ -34,38 +33,18 @@ enum Key {
     Other,
 }
 
-// Whether two words are the same.
-fn same(word: &[u8], other: &[u8]) -> bool
-    ensures { result ≡ bytes_eq word.now other.now }
-{
-    word == other
-}
-
-// Whether a word begins a comment.
-fn is_comment(word: &[u8]) -> bool
-    ensures { result ≡ comment word.now }
-{
-    word.len() > 0 && word[0] == COMMENT
-}
-
 // What the first word of a line says of it.
 fn read_key(word: &[u8]) -> Key
     ensures { result ≡ key_of word.now }
 {
-    if is_comment(word) {
-        Key::Comment
-    } else if same(word, b"paper") {
-        Key::Paper
-    } else if same(word, b"seals") {
-        Key::Seals
-    } else if same(word, b"trusted") {
-        Key::Trusted
-    } else if same(word, b"piece") {
-        Key::Piece
-    } else if same(word, b"chain") {
-        Key::Chain
-    } else {
-        Key::Other
+    match word {
+        [b'#', ..] => Key::Comment,
+        b"paper" => Key::Paper,
+        b"seals" => Key::Seals,
+        b"trusted" => Key::Trusted,
+        b"piece" => Key::Piece,
+        b"chain" => Key::Chain,
+        _ => Key::Other,
     }
 }
 
@@ -84,11 +63,9 @@ fn read_last(mut words: Words<'_>) -> Option<u64>
 fn read_day(mut words: Words<'_>) -> Option<u64>
     ensures { result ≡ day_of (words_of words.entry.rest.now) }
 {
-    let word = words.next()?;
-    if same(word, b"day") {
-        read_last(words)
-    } else {
-        None
+    match words.next()? {
+        b"day" => read_last(words),
+        _ => None,
     }
 }
 
@@ -96,58 +73,42 @@ fn read_day(mut words: Words<'_>) -> Option<u64>
 fn read_chain(mut words: Words<'_>) -> Option<Command>
     ensures { option_map says result ≡ chain_of (words_of words.entry.rest.now) }
 {
-    let word = words.next()?;
-    let first = parse_number(word)?;
+    let first = parse_number(words.next()?)?;
     let day = read_day(words)?;
     Some(Command::Chain { first, day })
 }
 
 // What stands behind `piece`.
-fn read_piece(heap: Global, mut words: Words<'_>) -> Result<Option<Command>, AllocError>
-    ensures { IfOk result (λ o. option_map says o ≡ piece_of (words_of words.entry.rest.now)) }
+fn read_piece(heap: Global, mut words: Words<'_>) -> Result<Command, LineError>
+    ensures { Reads says result (piece_of (words_of words.entry.rest.now)) }
 {
-    let Some(word) = words.next() else {
-        return Ok(None);
-    };
-    let Some(paper) = parse_number(word) else {
-        return Ok(None);
-    };
-    match read_numbers(heap, words)? {
-        Some(path) => Ok(Some(Command::Piece { paper, path })),
-        None => Ok(None),
-    }
+    let word = words.next().ok_or(LineError::Unreadable)?;
+    let paper = parse_number(word).ok_or(LineError::Unreadable)?;
+    let path = read_numbers(heap, words)?;
+    Ok(Command::Piece { paper, path })
 }
 
-// The command that the words of a line are; none if they can't be read.
-fn read_words(heap: Global, mut words: Words<'_>) -> Result<Option<Command>, AllocError>
-    ensures { IfOk result (λ o. option_map says o ≡ words_say (words_of words.entry.rest.now)) }
+// The command that the words of a line are.
+fn read_words(heap: Global, mut words: Words<'_>) -> Result<Command, LineError>
+    ensures { Reads says result (words_say (words_of words.entry.rest.now)) }
 {
     let Some(word) = words.next() else {
-        return Ok(Some(Command::Nothing));
+        return Ok(Command::Nothing);
     };
     match read_key(word) {
-        Key::Comment => Ok(Some(Command::Nothing)),
-        Key::Paper => match read_bytes(heap, words)? {
-            Some(bytes) => Ok(Some(Command::Paper(bytes))),
-            None => Ok(None),
-        },
-        Key::Seals => match read_marks(heap, words)? {
-            Some(marks) => Ok(Some(Command::Seals(marks))),
-            None => Ok(None),
-        },
-        Key::Trusted => match read_marks(heap, words)? {
-            Some(marks) => Ok(Some(Command::Trusted(marks))),
-            None => Ok(None),
-        },
+        Key::Comment => Ok(Command::Nothing),
+        Key::Paper => Ok(Command::Paper(read_bytes(heap, words)?)),
+        Key::Seals => Ok(Command::Seals(read_marks(heap, words)?)),
+        Key::Trusted => Ok(Command::Trusted(read_marks(heap, words)?)),
         Key::Piece => read_piece(heap, words),
-        Key::Chain => Ok(read_chain(words)),
-        Key::Other => Ok(None),
+        Key::Chain => read_chain(words).ok_or(LineError::Unreadable),
+        Key::Other => Err(LineError::Unreadable),
     }
 }
 
-// The command that a line is; none if it can't be read.
-pub fn read_line(heap: Global, line: &[u8]) -> Result<Option<Command>, AllocError>
-    ensures { IfOk result (λ o. option_map says o ≡ meaning line.now) }
+// The command that a line is.
+pub fn read_line(heap: Global, line: &[u8]) -> Result<Command, LineError>
+    ensures { Reads says result (meaning line.now) }
 {
     read_words(heap, Words::new(line))
 }

@@ -1,38 +1,29 @@
 // Numbers and bytes, read from words.
-ghost use Rattle.std.specs.Prelude.{◌≡◌, ◌++◌, IfOk, if◌then◌else◌, Some, None, vec_items};
+ghost use Rattle.std.specs.Prelude.{◌≡◌, ◌++◌, ◌<◌, ℕ, List, Option, Some, IfSome, vec_items};
 ghost use Rattle.std.specs.Option.{option_map};
-ghost use Rattle.text.specs.Figures.{below, with_digit, number, hex_digit, hex_pair, word_bytes, bytes_of, numbers};
+ghost use Rattle.std.specs.Fn.{FnReturnsAt};
+ghost use Rattle.text.specs.Figures.{below, with_digit, number, hex_digit, hex_pair, word_bytes, bytes_of, numbers, all_of};
 ghost use Rattle.text.specs.Meaning.{mark_limit, number_limit};
+ghost use Rattle.text.specs.Reads.{Reads};
 ghost use Rattle.tokens.specs.Pieces.{words as words_of};
 
-use std::alloc::{AllocError, Global};
+use crate::error::LineError;
+use std::alloc::Global;
 use tokens::Words;
-
-const TEN: u64 = 10;
-
-const SIXTEEN: u8 = 16;
-// What the digit `a` is in base sixteen.
-const DIGIT_A: u8 = 10;
-// How many digits of base sixteen a byte has.
-const BYTE_DIGITS: usize = 2;
-
-const MARK_MAX: u64 = 255;
 
 // A number with a digit behind it.
 fn push_digit(n: u64, b: u8) -> Option<u64>
     ensures { result ≡ below number_limit (with_digit (Some n) b) }
 {
-    if b < b'0' || b > b'9' {
-        return None;
-    }
-    n.checked_mul(TEN)?.checked_add(u64::from(b - b'0'))
+    let digit = char::from(b).to_digit(10)?;
+    n.checked_mul(10)?.checked_add(u64::from(digit))
 }
 
 // The number that a word writes in base ten.
 pub(crate) fn parse_number(word: &[u8]) -> Option<u64>
     ensures { result ≡ number number_limit word.now }
 {
-    if word.len() == 0 {
+    if word.is_empty() {
         return None;
     }
     let mut n = 0;
@@ -46,20 +37,15 @@ pub(crate) fn parse_number(word: &[u8]) -> Option<u64>
 pub(crate) fn parse_mark(word: &[u8]) -> Option<u8>
     ensures { result ≡ number mark_limit word.now }
 {
-    let n = parse_number(word)?;
-    if n <= MARK_MAX { Some(n as u8) } else { None }
+    u8::try_from(parse_number(word)?).ok()
 }
 
 // A digit of base sixteen, in either case.
-fn hex_value(b: u8) -> Option<u8>
-    ensures { result ≡ hex_digit b }
+fn hex_value(b: u8) -> Option<u32>
+    ensures value { result ≡ hex_digit b }
+    ensures small { IfSome result (λ d. d < 16) }
 {
-    match b {
-        b'0'..=b'9' => Some(b - b'0'),
-        b'a'..=b'f' => Some(b - b'a' + DIGIT_A),
-        b'A'..=b'F' => Some(b - b'A' + DIGIT_A),
-        _ => None,
-    }
+    char::from(b).to_digit(16)
 }
 
 // A byte, from two digits of base sixteen.
@@ -68,64 +54,62 @@ fn hex_byte(high: u8, low: u8) -> Option<u8>
 {
     let h = hex_value(high)?;
     let l = hex_value(low)?;
-    Some(h * SIXTEEN + l)
+    u8::try_from(h * 16 + l).ok()
 }
 
-// Puts the bytes that a word writes behind those of `out`; says whether it writes bytes.
-fn push_bytes(out: &mut Vec<u8>, word: &[u8]) -> Result<bool, AllocError>
-    ensures { IfOk result (λ ok. option_map (λ bs. out.old.items ++ bs) (word_bytes word.now) ≡ (if ok then Some out.new.items else None)) }
+// Puts the bytes that a word writes behind those of `out`.
+fn push_bytes(out: &mut Vec<u8>, word: &[u8]) -> Result<(), LineError>
+    ensures { Reads (λ _. out.new.items) result (option_map (λ bs. out.old.items ++ bs) (word_bytes word.now)) }
 {
     let mut rest = word;
-    while rest.len() >= BYTE_DIGITS {
-        let Some(byte) = hex_byte(rest[0], rest[1]) else {
-            return Ok(false);
-        };
-        out.push(byte)?;
-        rest = &rest[BYTE_DIGITS..];
+    while let [high, low, others @ ..] = rest {
+        out.push(hex_byte(*high, *low).ok_or(LineError::Unreadable)?)?;
+        rest = others;
     }
-    Ok(rest.len() == 0)
+    if rest.is_empty() {
+        Ok(())
+    } else {
+        Err(LineError::Unreadable)
+    }
 }
 
 // The bytes that all words left write.
-pub(crate) fn read_bytes(heap: Global, mut words: Words<'_>) -> Result<Option<Vec<u8>>, AllocError>
-    ensures { IfOk result (λ o. option_map vec_items o ≡ bytes_of (words_of words.entry.rest.now)) }
+pub(crate) fn read_bytes(heap: Global, words: Words<'_>) -> Result<Vec<u8>, LineError>
+    ensures { Reads vec_items result (bytes_of (words_of words.entry.rest.now)) }
 {
     let mut out = Vec::new(heap);
-    while let Some(word) = words.next() {
-        if !push_bytes(&mut out, word)? {
-            return Ok(None);
-        }
+    for word in words {
+        push_bytes(&mut out, word)?;
     }
-    Ok(Some(out))
+    Ok(out)
+}
+
+// The numbers that all words left write, each read by `parse`.
+fn read_all<T: Drop, F: Fn(&[u8]) -> Option<T>>(
+    heap: Global,
+    words: Words<'_>,
+    parse: F,
+) -> Result<Vec<T>, LineError>
+    requires { F.IsAlwaysCallable parse }
+    ensures { (p : List ℕ → Option T) → ((w : List ℕ) (r : Option T) → FnReturnsAt F.Fn parse w r → r ≡ p w) → Reads vec_items result (all_of p (words_of words.entry.rest.now)) }
+{
+    let mut out = Vec::new(heap);
+    for word in words {
+        out.push(parse(word).ok_or(LineError::Unreadable)?)?;
+    }
+    Ok(out)
 }
 
 // The marks that all words left write.
-pub(crate) fn read_marks(heap: Global, mut words: Words<'_>) -> Result<Option<Vec<u8>>, AllocError>
-    ensures { IfOk result (λ o. option_map vec_items o ≡ numbers mark_limit (words_of words.entry.rest.now)) }
+pub(crate) fn read_marks(heap: Global, words: Words<'_>) -> Result<Vec<u8>, LineError>
+    ensures { Reads vec_items result (numbers mark_limit (words_of words.entry.rest.now)) }
 {
-    let mut out = Vec::new(heap);
-    while let Some(word) = words.next() {
-        let Some(n) = parse_mark(word) else {
-            return Ok(None);
-        };
-        out.push(n)?;
-    }
-    Ok(Some(out))
+    read_all(heap, words, parse_mark)
 }
 
 // The numbers that all words left write.
-pub(crate) fn read_numbers(
-    heap: Global,
-    mut words: Words<'_>,
-) -> Result<Option<Vec<u64>>, AllocError>
-    ensures { IfOk result (λ o. option_map vec_items o ≡ numbers number_limit (words_of words.entry.rest.now)) }
+pub(crate) fn read_numbers(heap: Global, words: Words<'_>) -> Result<Vec<u64>, LineError>
+    ensures { Reads vec_items result (numbers number_limit (words_of words.entry.rest.now)) }
 {
-    let mut out = Vec::new(heap);
-    while let Some(word) = words.next() {
-        let Some(n) = parse_number(word) else {
-            return Ok(None);
-        };
-        out.push(n)?;
-    }
-    Ok(Some(out))
+    read_all(heap, words, parse_number)
 }

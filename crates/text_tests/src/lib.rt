@@ -8,35 +8,36 @@ mod tests {
     };
     use std::alloc::{AllocError, Global};
     use std::test::Fail;
-    use text::{Command, read_line};
+    use text::{Command, LineError, read_line};
     use tokens::Lines;
 
     // A command in words.
     fn describe(heap: Global, line: &[u8]) -> Result<Vec<u8>, AllocError> {
         let mut out = Vec::new(heap);
-        match read_line(heap, line)? {
-            None => append_none(&mut out)?,
-            Some(Command::Nothing) => out.extend_from_slice(b"nothing\n")?,
-            Some(Command::Paper(bytes)) => {
+        match read_line(heap, line) {
+            Err(LineError::Unreadable) => append_none(&mut out)?,
+            Err(LineError::Memory) => return Err(AllocError),
+            Ok(Command::Nothing) => out.extend_from_slice(b"nothing\n")?,
+            Ok(Command::Paper(bytes)) => {
                 out.extend_from_slice(b"paper ")?;
                 append_bytes(&mut out, bytes.as_slice())?;
             }
-            Some(Command::Seals(marks)) => {
+            Ok(Command::Seals(marks)) => {
                 out.extend_from_slice(b"seals ")?;
                 append_bytes(&mut out, marks.as_slice())?;
             }
-            Some(Command::Trusted(marks)) => {
+            Ok(Command::Trusted(marks)) => {
                 out.extend_from_slice(b"trusted ")?;
                 append_bytes(&mut out, marks.as_slice())?;
             }
-            Some(Command::Piece { paper, path }) => {
+            Ok(Command::Piece { paper, path }) => {
                 out.extend_from_slice(b"piece\n")?;
                 append_ill(&mut out, paper)?;
                 for w in path.iter() {
                     append_ill(&mut out, *w)?;
                 }
             }
-            Some(Command::Chain { first, day }) => append_refusal(&mut out, first, day)?,
+            Ok(Command::Chain { first, day }) => append_refusal(&mut out, first, day)?,
         }
         Ok(out)
     }
@@ -94,8 +95,7 @@ mod tests {
     // The lines of a text, each in base sixteen.
     fn cut(heap: Global, text: &[u8]) -> Result<Vec<u8>, AllocError> {
         let mut out = Vec::new(heap);
-        let mut lines = Lines::new(text);
-        while let Some(line) = lines.next() {
+        for line in Lines::new(text) {
             append_bytes(&mut out, line)?;
         }
         Ok(out)
@@ -128,9 +128,9 @@ mod tests {
         append_ill(&mut out, 0)?;
         append_ill(&mut out, 18446744073709551615)?;
         append_bytes(&mut out, &[2, 0, 255])?;
-        append_element(&mut out, 0, 128, &[1, 2], true)?;
-        append_element(&mut out, 1, 1, &[65, 171], false)?;
-        append_element(&mut out, 2, 2, &[], false)?;
+        append_element(&mut out, 0, 128, None)?;
+        append_element(&mut out, 1, 1, Some(&[65, 171]))?;
+        append_element(&mut out, 2, 2, Some(&[]))?;
         assert_eq!(rt;
             out.as_slice(),
             b"0 2 3\n65535\nnone\nrefused 3 at 7\nill at 0\nill at 18446744073709551615\n02 00 ff\n80\n  01 41 ab\n    02\n".as_slice()

@@ -1,80 +1,73 @@
--- The first piece of some bytes, the first word of a line, and what is left. Assumes nothing.
-use Rattle.std.proofs.Common.{◌≡◌, ℕ, zero, suc, ◌+◌, ◌<◌, ◌≤◌, Bool, true, false, cond, List, [], ◌∷◌, length, get_or, take, drop, sym, refl, ap, ◌∙◌, add-one, arith}
-use Rattle.std.proofs.lemmas.List.{at_drop_more, at_drop_all, length-take-le, length-drop}
-use Rattle.tokens.specs.Pieces.{blank, line_end, lengthened, pieces, some_of, words, lines, run}
+-- The first piece of some bytes, and the first word of a line. Assumes nothing.
+use Rattle.std.proofs.Common.{◌≡◌, ℕ, zero, suc, ◌+◌, ◌<◌, Bool, true, false, cond, List, [], ◌∷◌, length, take, drop, Some, None, Option, MatchOption, Bor, Iter, sym, refl, ap, ◌∙◌, subst, add-one, arith}
+use Rattle.std.specs.List.{AllWithin, HoldsAt}
+use Rattle.std.specs.Fn.{ComputesKey, Called, Mut}
+use Rattle.std.specs.Iterator.{FindsPosition}
+use Rattle.std.proofs.lemmas.Iterator.{IsFirst-from_position, YieldsList-from_slice}
+use Rattle.std.proofs.lemmas.Fn.{fronts}
+use Rattle.tokens.specs.Pieces.{blank, lengthened, pieces, some_of, words, lines}
 
 module _ (ends : ℕ → Bool) where
-  run_le : (bs : List ℕ) → run ends bs ≤ length bs
-  unfolding run
-  run_le [] = omega arith
-  run_le (b ∷ bs) = let more = run_le bs in elim (ends b) as (λ t. cond t zero (suc (run ends bs)) ≤ suc (length bs)) [ true ↦ omega arith | false ↦ omega arith ]
+  -- one byte of a piece, and an end
+  pub on_piece : (b : ℕ) (bs : List ℕ) → ends b ≡ false → pieces ends (b ∷ bs) ≡ lengthened b (pieces ends bs)
+  unfolding pieces
+  on_piece b bs off = ap (λ t. cond t ([] ∷ pieces ends bs) (lengthened b (pieces ends bs))) off
 
-  -- one byte on in a count of the bytes before the first that passes
-  pub run_more : (bs : List ℕ) (i : ℕ) → i < length bs → ends (get_or bs i 0) ≡ false → run ends (drop i bs) ≡ run ends (drop (i + 1) bs) + 1
-  unfolding run
-  run_more bs i lt off = at_drop_more (run ends) bs i 0 lt ∙ ap (λ t. cond t zero (suc (run ends (drop (i + 1) bs)))) off ∙ sym (add-one _)
+  pub on_end : (b : ℕ) (bs : List ℕ) → ends b ≡ true → pieces ends (b ∷ bs) ≡ [] ∷ pieces ends bs
+  unfolding pieces
+  on_end b bs on = ap (λ t. cond t ([] ∷ pieces ends bs) (lengthened b (pieces ends bs))) on
 
-  pub run_stops : (bs : List ℕ) (i : ℕ) → i < length bs → ends (get_or bs i 0) ≡ true → run ends (drop i bs) ≡ 0
-  unfolding run
-  run_stops bs i lt on = at_drop_more (run ends) bs i 0 lt ∙ ap (λ t. cond t zero (suc (run ends (drop (i + 1) bs)))) on
+  -- the piece before the first end, at place n
+  before_end : (bs : List ℕ) (n : ℕ) → n < length bs → HoldsAt (λ b. ends b ≡ true) bs n → AllWithin (λ b. ends b ≡ false) bs 0 n → pieces ends bs ≡ take n bs ∷ pieces ends (drop (suc n) bs)
+  before_end [] n lt on off = absurd (omega arith)
+  before_end (b ∷ bs) zero lt on off = on_end b bs (on 0)
+  before_end (b ∷ bs) (suc n) lt on off =
+      on_piece b bs (off 0 0 (omega arith) (omega arith)) ∙ ap (lengthened b) (before_end bs n (omega arith) on (λ k d l u. off (suc k) d (omega arith) (omega arith)))
 
-  pub run_all : (bs : List ℕ) (i : ℕ) → length bs ≤ i → run ends (drop i bs) ≡ 0
-  unfolding run
-  run_all bs i le = at_drop_all (run ends) bs i le
+  -- the place of the first end, if there is one
+  abbrev pub FirstEnd : List ℕ → Option ℕ → Type 0
+  FirstEnd bs r = MatchOption r (AllWithin (λ b. ends b ≡ false) bs 0 (length bs)) (λ n. (n < length bs) × HoldsAt (λ b. ends b ≡ true) bs n × AllWithin (λ b. ends b ≡ false) bs 0 n)
 
-  -- the first piece is what stands before the first byte that passes, and the others are the pieces behind that byte
-  abbrev First : List ℕ → Type 0
-  First bs = pieces ends bs ≡ take (run ends bs) bs ∷ pieces ends (drop (suc (run ends bs)) bs)
+  pub cut_at_end : (bs : List ℕ) (r : Option ℕ) (n : ℕ) → r ≡ Some n → FirstEnd bs r → pieces ends bs ≡ take n bs ∷ pieces ends (drop (n + 1) bs)
+  cut_at_end bs r n is h =
+      let end = subst (FirstEnd bs) is h in
+      before_end bs n end.0 end.1 end.2 ∙ ap (λ k. take n bs ∷ pieces ends (drop k bs)) (sym (add-one n))
 
-  first_piece : (b : ℕ) (bs : List ℕ) → First (b ∷ bs)
-  unfolding run pieces
-  first_piece b [] = elim (ends b) as (λ t. cond t ([] ∷ []) ((b ∷ []) ∷ []) ≡ take (cond t zero 1) (b ∷ []) ∷ pieces ends (drop (suc (cond t zero 1)) (b ∷ []))) [ true ↦ refl | false ↦ refl ]
-  first_piece b (c ∷ bs) =
-      let more = first_piece c bs in
-      elim (ends b) as (λ t. cond t ([] ∷ pieces ends (c ∷ bs)) (lengthened b (pieces ends (c ∷ bs))) ≡ take (cond t zero (suc (run ends (c ∷ bs)))) (b ∷ (c ∷ bs)) ∷ pieces ends (drop (suc (cond t zero (suc (run ends (c ∷ bs))))) (b ∷ (c ∷ bs))))
-      [ true ↦ refl | false ↦ ap (lengthened b) more ]
+  -- a last piece, with no end behind it
+  last_piece : (b : ℕ) (bs : List ℕ) → AllWithin (λ b. ends b ≡ false) (b ∷ bs) 0 (length (b ∷ bs)) → pieces ends (b ∷ bs) ≡ (b ∷ bs) ∷ []
+  unfolding pieces
+  last_piece b [] off = on_piece b [] (off 0 0 (omega arith) (omega arith))
+  last_piece b (c ∷ bs) off =
+      on_piece b (c ∷ bs) (off 0 0 (omega arith) (omega arith)) ∙ ap (lengthened b) (last_piece c bs (λ k d l u. off (suc k) d (omega arith) (omega arith)))
 
-  -- the same, by the count of the bytes before
-  first_at : (b : ℕ) (bs : List ℕ) (n : ℕ) → n ≡ run ends (b ∷ bs) → pieces ends (b ∷ bs) ≡ take n (b ∷ bs) ∷ pieces ends (drop (n + 1) (b ∷ bs))
-  first_at b bs n is =
-      first_piece b bs ∙ ap (λ k. take k (b ∷ bs) ∷ pieces ends (drop (suc k) (b ∷ bs))) (sym is) ∙ ap (λ k. take n (b ∷ bs) ∷ pieces ends (drop k (b ∷ bs))) (sym (add-one n))
+  pub cut_whole : (bs : List ℕ) (r : Option ℕ) → 0 < length bs → r ≡ None → FirstEnd bs r → pieces ends bs ≡ bs ∷ pieces ends []
+  unfolding pieces
+  cut_whole [] r lt is h = absurd (omega arith)
+  cut_whole (b ∷ bs) r lt is h = last_piece b bs (subst (FirstEnd (b ∷ bs)) is h)
+
+  -- what `position` finds, where each call says whether a byte is an end and leaves the closure as it was
+  pub first_end : {F : Type 0} (g : Mut F (Bor ℕ × Unit {0}) Bool) (s u : Iter ℕ) (f : F) (bs : List ℕ) (r : Option ℕ) → FindsPosition fronts g s f r u → s.rest.now ≡ bs → ComputesKey g ends f → ((a : Bor ℕ × Unit {0}) (t : Bool) (q : F) → Called g f a t q → q ≡ f) → FirstEnd bs r
+  first_end g s u f bs r ran rest tells stays =
+      IsFirst-from_position u f r (λ b. ends b ≡ true) (λ b. ends b ≡ false) ran (YieldsList-from_slice bs rest) (λ x q k. sym (tells.at ((x, tt) ∷ []) true q k).0) (λ x q k. (stays (x, tt) false q k, sym (tells.at ((x, tt) ∷ []) false q k).0))
+
+pub lines_nil : lines [] ≡ []
+unfolding lines pieces
+lines_nil = refl
 
 pub words_nil : words [] ≡ []
 unfolding words pieces
 words_nil = refl
 
--- no word before the first blank
-pub no_word : (bs : List ℕ) (n : ℕ) → 0 < length bs → n ≡ run blank bs → n ≤ 0 → words bs ≡ words (drop (n + 1) bs)
-unfolding words
-no_word [] n lt is none = absurd (omega arith)
-no_word (b ∷ bs) n lt is none =
-    let zero_run : run blank (b ∷ bs) ≡ 0 = omega arith in
-    let one : 1 ≡ n + 1 = omega arith in
-    ap some_of (first_piece blank b bs ∙ ap (λ k. take k (b ∷ bs) ∷ pieces blank (drop (suc k) (b ∷ bs))) zero_run) ∙ ap (λ k. some_of (pieces blank (drop k (b ∷ bs)))) one
-
 pub one_word : (w : List ℕ) (ps : List (List ℕ)) → 0 < length w → some_of (w ∷ ps) ≡ w ∷ some_of ps
 one_word [] ps lt = absurd (omega arith)
 one_word (b ∷ w) ps lt = refl
 
--- the word before the first blank
-pub first_word : (bs : List ℕ) (n : ℕ) → n ≡ run blank bs → 0 < n → words bs ≡ take n bs ∷ words (drop (n + 1) bs)
+-- the words of a line without its first piece, which is a word unless it is empty
+pub first_word : (line word left : List ℕ) → pieces blank line ≡ word ∷ pieces blank left → 0 < length word → words line ≡ word ∷ words left
 unfolding words
-first_word [] n is lt = absurd (omega (arith, run_le blank []))
-first_word (b ∷ bs) n is lt =
-    let long = length-take-le n (b ∷ bs) (omega (arith, run_le blank (b ∷ bs))) in
-    ap some_of (first_at blank b bs n is) ∙ one_word (take n (b ∷ bs)) (pieces blank (drop (n + 1) (b ∷ bs))) (omega arith)
+first_word line word left h lt = ap some_of h ∙ one_word word (pieces blank left) lt
 
--- behind the byte at n there are fewer bytes
-pub fewer : (bs : List ℕ) (n : ℕ) → 0 < length bs → length (drop (n + 1) bs) < length bs
-fewer bs n lt = omega (arith, length-drop (n + 1) bs)
-
-pub lines_nil : (bs : List ℕ) → length bs ≡ 0 → lines bs ≡ []
-unfolding lines pieces
-lines_nil [] e = refl
-lines_nil (b ∷ bs) e = absurd (omega arith)
-
--- the line before the first line feed
-pub first_line : (bs : List ℕ) (n : ℕ) → 0 < length bs → n ≡ run line_end bs → lines bs ≡ take n bs ∷ lines (drop (n + 1) bs)
-unfolding lines
-first_line [] n lt is = absurd (omega arith)
-first_line (b ∷ bs) n lt is = first_at line_end b bs n is
+pub no_word : (line word left : List ℕ) → pieces blank line ≡ word ∷ pieces blank left → length word ≡ 0 → words line ≡ words left
+unfolding words
+no_word line [] left h none = ap some_of h
+no_word line (b ∷ word) left h none = absurd (omega arith)

@@ -2,7 +2,7 @@
 use Rattle.std.proofs.Common.{◌≡◌, ℕ, ◌<◌, Bool, true, false, cond, List, [], ◌∷◌, ◌++◌, length, sym, refl, ap, ◌∙◌, subst, inl, inr, append-nil, arith}
 use Rattle.tokens.specs.Pieces.{blank, line_end, lengthened, pieces, some_of, words, lines}
 use Rattle.tokens.specs.Promise.{Every, PiecesOf, LinesStand, WordEnds, WordsOf, WordsStand}
-use Rattle.tokens.proofs.Cuts.{one_word}
+use Rattle.tokens.proofs.Cuts.{on_piece, on_end, one_word}
 
 module _ (ends : ℕ → Bool) where
   -- a byte more in front of the first piece
@@ -20,24 +20,15 @@ module _ (ends : ℕ → Bool) where
       go true on h = (tt, inl (bs, record { end = b; at_end = on; cut = refl }, h))
       go false off h = longer b bs (pieces ends bs) off h
 
-  -- one byte of a piece, and an end
-  on_piece : (b : ℕ) (bs : List ℕ) → ends b ≡ false → pieces ends (b ∷ bs) ≡ lengthened b (pieces ends bs)
-  unfolding pieces
-  on_piece b bs off = ap (λ t. cond t ([] ∷ pieces ends bs) (lengthened b (pieces ends bs))) off
-
-  on_end : (b : ℕ) (bs : List ℕ) → ends b ≡ true → pieces ends (b ∷ bs) ≡ [] ∷ pieces ends bs
-  unfolding pieces
-  on_end b bs on = ap (λ t. cond t ([] ∷ pieces ends bs) (lengthened b (pieces ends bs))) on
-
   piece_and_end : (p : List ℕ) (b : ℕ) (rest : List ℕ) → Every ends false p → ends b ≡ true → pieces ends (p ++ b ∷ rest) ≡ p ∷ pieces ends rest
-  piece_and_end [] b rest h on = on_end b rest on
-  piece_and_end (c ∷ p) b rest h on = on_piece c (p ++ b ∷ rest) h.0 ∙ ap (lengthened c) (piece_and_end p b rest h.1 on)
+  piece_and_end [] b rest h on = on_end ends b rest on
+  piece_and_end (c ∷ p) b rest h on = on_piece ends c (p ++ b ∷ rest) h.0 ∙ ap (lengthened c) (piece_and_end p b rest h.1 on)
 
   last_alone : (p : List ℕ) → 0 < length p → Every ends false p → pieces ends p ≡ p ∷ []
   unfolding pieces
   last_alone [] lt h = absurd (omega arith)
-  last_alone (c ∷ []) lt h = on_piece c [] h.0
-  last_alone (c ∷ (d ∷ p)) lt h = on_piece c (d ∷ p) h.0 ∙ ap (lengthened c) (last_alone (d ∷ p) (omega arith) h.1)
+  last_alone (c ∷ []) lt h = on_piece ends c [] h.0
+  last_alone (c ∷ (d ∷ p)) lt h = on_piece ends c (d ∷ p) h.0 ∙ ap (lengthened c) (last_alone (d ∷ p) (omega arith) h.1)
 
   pieces_only : (ps : List (List ℕ)) (bs : List ℕ) → PiecesOf ends bs ps → pieces ends bs ≡ ps
   unfolding pieces

@@ -1,5 +1,5 @@
 -- The words of a line and the lines of a text. A byte is a number. Assumes nothing: these are definitions.
-use Rattle.std.specs.Prelude.{◌≡◌, ℕ, zero, suc, ◌<◌, Bool, cond, ◌||◌, List, [], ◌∷◌, length, ◌==◌}
+use Rattle.std.specs.Prelude.{ℕ, Bool, cond, ◌||◌, List, [], ◌∷◌, ◌==◌}
 
 -- a blank: space, tab or carriage return
 abbrev pub blank : ℕ → Bool
@@ -32,18 +32,3 @@ words line = some_of (pieces blank line)
 -- the lines of a text, without their ends; behind a last line feed there is no line
 unfoldable pub lines : List ℕ → List (List ℕ)
 lines text = pieces line_end text
-
--- the first word or line of some bytes is handed out, and the others are those of what is left
-pub record Handed (split : List ℕ → List (List ℕ)) (was piece left : List ℕ) : Type 0 where
-  pub first : split was ≡ piece ∷ split left
-  pub shorter : length left < length was
-
--- there is none to hand out, and none is left
-pub record Ended (split : List ℕ → List (List ℕ)) (was left : List ℕ) : Type 0 where
-  pub none : split was ≡ []
-  pub after : split left ≡ []
-
--- how many bytes stand before the first that passes a test, or all if none does
-unfoldable pub run : (ℕ → Bool) → List ℕ → ℕ
-run ends [] = zero
-run ends (b ∷ bs) = cond (ends b) zero (suc (run ends bs))

@@ -1,14 +1,8 @@
 // The words of a line and the lines of a text.
-ghost use Rattle.std.specs.Prelude.{◌≡◌, ◌+◌, ◌≤◌, length, drop, MatchOption};
-ghost use Rattle.tokens.specs.Pieces.{blank, line_end, words, lines, Handed, Ended, run};
-
-const SPACE: u8 = b' ';
-
-const TAB: u8 = b'\t';
-
-const CARRIAGE_RETURN: u8 = b'\r';
-
-const LINE_FEED: u8 = b'\n';
+ghost use Rattle.std.specs.Prelude.{◌≡◌, ℕ, Bool, length, ◌<◌, ◌∷◌, IfNone, IfSome, []};
+ghost use Rattle.std.specs.Fn.{ComputesKey};
+ghost use Rattle.std.specs.Iterator.{at_most, YieldsFirstRef};
+ghost use Rattle.tokens.specs.Pieces.{blank, line_end, pieces, words, lines};
 
 // The words of a line that are not handed out yet.
 #[derive(Drop)]
@@ -23,59 +17,33 @@ pub struct Lines<'a> {
 }
 
 // Whether a byte is a blank.
-fn is_blank(b: u8) -> bool
-    ensures { result ≡ blank b }
+fn is_blank(b: &u8) -> bool
+    ensures { result ≡ blank b.now }
 {
-    b == SPACE || b == TAB || b == CARRIAGE_RETURN
+    matches!(*b, b' ' | b'\t' | b'\r')
 }
 
-// How many bytes stand before the first blank.
-fn word_len(bytes: &[u8]) -> usize
-    ensures count { result ≡ run blank bytes.now }
-    ensures within { result ≤ length bytes.now }
+// Whether a byte ends a line.
+fn is_line_end(b: &u8) -> bool
+    ensures { result ≡ line_end b.now }
 {
-    for (i, b) in bytes.iter().enumerate() {
-        if is_blank(*b) {
-            return i;
-        }
-    }
-    bytes.len()
+    *b == b'\n'
 }
 
-// How many bytes stand before the first line feed.
-fn line_len(bytes: &[u8]) -> usize
-    ensures count { result ≡ run line_end bytes.now }
-    ensures within { result ≤ length bytes.now }
+// The first piece of some bytes and what stands behind its end; none if there are no bytes.
+fn cut<'a, F: Fn(&u8) -> bool>(bytes: &'a [u8], ends: F) -> Option<(&'a [u8], &'a [u8])>
+    requires { F.IsAlwaysCallable ends }
+    ensures none { IfNone result (bytes.now ≡ []) }
+    ensures shorter { IfSome result (λ r. length r.1.now < length bytes.now) }
+    ensures first { (p : ℕ → Bool) → ComputesKey F.FnMut p ends → IfSome result (λ r. pieces p bytes.now ≡ r.0.now ∷ pieces p r.1.now) }
 {
-    for (i, b) in bytes.iter().enumerate() {
-        if *b == LINE_FEED {
-            return i;
-        }
-    }
-    bytes.len()
-}
-
-// What stands behind the byte at n.
-fn behind<'a>(bytes: &'a [u8], n: usize) -> &'a [u8]
-    requires { n ≤ length bytes.now }
-    ensures { result.now ≡ drop (n + 1) bytes.now }
-{
-    if n < bytes.len() {
-        &bytes[n + 1..]
-    } else {
-        &bytes[n..]
-    }
-}
-
-// The first line of a text, and what stands behind it.
-fn first_line<'a>(text: &'a [u8]) -> Option<(&'a [u8], &'a [u8])>
-    ensures { MatchOption result (Ended lines text.now text.now) (λ p. Handed lines text.now p.0.now p.1.now) }
-{
-    if text.len() == 0 {
+    if bytes.is_empty() {
         return None;
     }
-    let n = line_len(text);
-    Some((&text[0..n], behind(text, n)))
+    match bytes.iter().position(ends) {
+        Some(n) => Some((&bytes[..n], &bytes[n + 1..])),
+        None => Some((bytes, &[])),
+    }
 }
 
 impl<'a> Words<'a> {
@@ -85,16 +53,19 @@ impl<'a> Words<'a> {
     {
         Words { rest: line }
     }
+}
 
-    // The next word.
-    pub fn next(&mut self) -> Option<&'a [u8]>
-        ensures { MatchOption result (Ended words self.old.rest.now self.new.rest.now) (λ w. Handed words self.old.rest.now w.now self.new.rest.now) }
-    {
-        while self.rest.len() > 0 {
-            let n = word_len(self.rest);
-            let word = &self.rest[0..n];
-            self.rest = behind(self.rest, n);
-            if n > 0 {
+impl<'a> Iterator for Words<'a> {
+    type Item = &'a [u8];
+
+    ghost next_gives = { YieldsFirstRef (λ s. words s.rest.now) };
+
+    ghost remaining = { λ s. at_most (length s.rest.now) };
+
+    fn next(&mut self) -> Option<&'a [u8]> {
+        while let Some((word, behind)) = cut(self.rest, is_blank) {
+            self.rest = behind;
+            if !word.is_empty() {
                 return Some(word);
             }
         }
@@ -109,12 +80,17 @@ impl<'a> Lines<'a> {
     {
         Lines { rest: text }
     }
+}
 
-    // The next line.
-    pub fn next(&mut self) -> Option<&'a [u8]>
-        ensures { MatchOption result (Ended lines self.old.rest.now self.new.rest.now) (λ w. Handed lines self.old.rest.now w.now self.new.rest.now) }
-    {
-        let (line, rest) = first_line(self.rest)?;
+impl<'a> Iterator for Lines<'a> {
+    type Item = &'a [u8];
+
+    ghost next_gives = { YieldsFirstRef (λ s. lines s.rest.now) };
+
+    ghost remaining = { λ s. at_most (length s.rest.now) };
+
+    fn next(&mut self) -> Option<&'a [u8]> {
+        let (line, rest) = cut(self.rest, is_line_end)?;
         self.rest = rest;
         Some(line)
     }

@@ -1,13 +1,14 @@
 use Rattle.std.proofs.Common.{sym, ◌∙◌, arith}
+use Rattle.std.proofs.lemmas.Bool.{eqb-true, eqb-false}
 use Rattle.text.specs.Meaning.{number_limit}
 use Rattle.text.proofs.Values.{number_nil, number_some, digit_read, digit_fails, digits_end}
 use Rattle.text.proofs.figures.parse_number.Goals as goal
 
-pub returns-then-word-eq0 : goal.returns-then-word-eq0
-returns-then-word-eq0 c = sym (number_nil number_limit c.args.word.now (omega arith))
+pub returns-then-is_empty : goal.returns-then-is_empty
+returns-then-is_empty c = sym (number_nil number_limit c.args.word.now (eqb-true _ 0 (sym c.if-is_empty.ensures)))
 
 pub loop-b-init : goal.loop-b-init
-loop-b-init c = (number_some number_limit c.args.word.now (omega arith), omega arith)
+loop-b-init c = (number_some number_limit c.args.word.now (omega (arith, eqb-false _ 0 (sym c.if-is_empty.ensures))), omega arith)
 
 pub returns-in_err-n : goal.returns-in_err-n
 returns-in_err-n c =

@@ -1,11 +1,8 @@
-use Rattle.std.proofs.Common.{◌≡◌, length, vec_items}
+use Rattle.std.proofs.Common.{◌≡◌, vec_items}
 use Rattle.text.specs.Figures.{bytes_of}
 use Rattle.tokens.specs.Pieces.{words}
 use Rattle.text.proofs.Values.{onto}
 use Rattle.text.proofs.figures.read_bytes.Given as goal
 
 abbrev pub invariant-loop-word : goal.invariant-loop-word
-invariant-loop-word l = bytes_of (words l.initial.words.rest.now) ≡ onto (vec_items l.out) (bytes_of (words l.words.rest.now))
-
-abbrev pub decreases-loop-word : goal.decreases-loop-word
-decreases-loop-word l = length l.words.rest.now
+invariant-loop-word l = bytes_of (words l.fn.words.rest.now) ≡ onto (vec_items l.out) (bytes_of (words l.word-iterator.rest.now))

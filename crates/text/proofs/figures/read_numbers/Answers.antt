@@ -1,16 +1,8 @@
-use Rattle.std.proofs.Common.{vec_items, sym, ◌∙◌}
+use Rattle.std.proofs.Common.{rules}
+use Rattle.text.specs.Figures.{number, numbers}
 use Rattle.text.specs.Meaning.{number_limit}
-use Rattle.tokens.specs.Pieces.{words}
-use Rattle.text.proofs.Values.{numbers_more, numbers_fail, numbers_end}
 use Rattle.text.proofs.figures.read_numbers.Goals as goal
 
-pub returns-in_default-parse_number : goal.returns-in_default-parse_number
-returns-in_default-parse_number c =
-    sym (c.loop-word.invariant ∙ numbers_fail number_limit (vec_items c.loop-word.out) (words c.loop-word.words.rest.now) _ _ c.in-Some.ensures.first c.in_default-parse_number.ensures)
-
-pub loop-word-preserved : goal.loop-word-preserved
-loop-word-preserved c =
-    c.loop-word.invariant ∙ numbers_more number_limit (vec_items c.loop-word.out) (words c.loop-word.words.rest.now) _ _ _ (vec_items c.push.new.self) c.in-Some.ensures.first c.in-Some-parse_number.ensures c.in_ok-push.ensures.items
-
 pub returns : goal.returns
-returns c = sym (c.loop-word.invariant ∙ numbers_end number_limit (vec_items c.loop-word.out) (words c.loop-word.words.rest.now) c.in_default.ensures.none)
+unfolding numbers
+returns c = c.read_all.ensures (number number_limit) (λ w r h. search rules)
