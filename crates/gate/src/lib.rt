@@ -1,18 +1,19 @@
 // The library for a gate: what its C program calls.
 #![tactic(auto)]
 
-ghost use Rattle.std.specs.Prelude.{◌≡◌, Option};
+ghost use Rattle.std.specs.Prelude.{◌≡◌, ℕ, Option, Result};
 ghost use Rattle.path.specs.declared.paths.Span.{Span as Place};
-ghost use Rattle.element.specs.declared.judging.Verdict.{Verdict as Judgement};
+ghost use Rattle.certificate.specs.declared.Rejection.{Rejection as Why};
+ghost use Rattle.element.specs.declared.judging.Ill.{Ill as IllAt};
 ghost use Rattle.element.specs.Judged.{Judged};
 ghost use Rattle.path.specs.Located.{Located};
-ghost use Rattle.shortest.specs.declared.Answer.{Answer as Told};
 ghost use Rattle.shortest.specs.Answers.{Answers};
 ghost use Rattle.gate.specs.Numbers.{verdict_number, span_part, answer_numbers};
 
-use element::Verdict;
+use certificate::PoolInput;
+use element::Ill;
 use path::locate;
-use shortest::{Answer, find_chain};
+use shortest::find_chain;
 
 // A part of the bytes: where it begins, and how many bytes it has.
 #[repr(C)]
@@ -33,11 +34,11 @@ pub struct ChainAnswer {
 // Whether the bytes are a row of elements: 0 if they are, k + 1 if they are ill at k.
 #[unsafe(no_mangle)]
 pub extern "C" fn judge(bytes: &[u8]) -> u64
-    ensures { (v : Judgement) × Judged bytes.now v × (result ≡ verdict_number v) }
+    ensures { (v : Result Unit IllAt) × Judged bytes.now v × (result ≡ verdict_number v) }
 {
     match element::judge(bytes) {
-        Verdict::Well => 0,
-        Verdict::Ill { at } => at as u64 + 1,
+        Ok(()) => 0,
+        Err(Ill { at }) => at as u64 + 1,
     }
 }
 
@@ -66,20 +67,25 @@ pub extern "C" fn chain<'a>(
     first: u64,
     out: &mut [u16],
 ) -> ChainAnswer
-    ensures { (a : Told) × Answers n certificates.now signatures.now anchors.now day first out.old out.new a × (result ≡ answer_numbers a) }
+    ensures { (a : Result (Option ℕ) Why) × Answers n certificates.now signatures.now anchors.now day first out.old out.new a × (result ≡ answer_numbers a) }
 {
-    let answer = find_chain(n, certificates, signatures, anchors, day, first, out);
-    match answer {
-        Answer::Chain(len) => ChainAnswer {
+    let input = PoolInput {
+        count: n,
+        certificates,
+        signatures,
+        anchors,
+    };
+    match find_chain(input, day, first, out) {
+        Ok(Some(len)) => ChainAnswer {
             rejection: 0,
             len: len as u64,
         },
-        Answer::NoChain => ChainAnswer {
+        Ok(None) => ChainAnswer {
             rejection: 0,
             len: 0,
         },
-        Answer::Rejected(why) => ChainAnswer {
-            rejection: why.number() as u64,
+        Err(why) => ChainAnswer {
+            rejection: u64::from(why.number()),
             len: 0,
         },
     }

@@ -3,7 +3,7 @@ ghost use Rattle.std.specs.Prelude.{option_map};
 ghost use Rattle.path.specs.Located.{Found, Located, Piece};
 
 use crate::walking::{Cursor, Element};
-use element::{Verdict, judge};
+use element::judge;
 
 // Where an element stands in the bytes, and how many bytes it takes.
 #[derive(Clone, Copy)]
@@ -16,7 +16,7 @@ pub struct Span {
 pub fn find<'a>(bytes: &'a [u8], path: &[u64]) -> Option<Element<'a>>
     ensures { Found bytes.now path.now result }
 {
-    let Verdict::Well = judge(bytes) else {
+    let Ok(()) = judge(bytes) else {
         return None;
     };
     let (last, outer) = path.split_last()?;

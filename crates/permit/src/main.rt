@@ -48,13 +48,11 @@ fn read_args(rt: &HostRuntime) -> anyhow::Result<Asked> {
     if args.next().is_some() {
         return Err(anyhow!("one file at most; `permit --help` says more"));
     }
-    if first.as_str() == "--help" {
-        return Ok(Asked::Help);
-    }
-    if first.as_str() == "--version" {
-        return Ok(Asked::Version);
-    }
-    Ok(Asked::File(first))
+    Ok(match first.as_str() {
+        "--help" => Asked::Help,
+        "--version" => Asked::Version,
+        _ => Asked::File(first),
+    })
 }
 
 // All bytes of standard input.
@@ -78,13 +76,10 @@ fn answer(rt: &HostRuntime, text: &[u8]) -> anyhow::Result<()> {
     let book = Book::read(heap, text)?;
     let mut out = BufWriter::new(heap, rt.stdout())?;
     let mut answer = Vec::new(heap);
-    let mut lines = Lines::new(text);
-    let mut number = 0;
-    while let Some(line) = lines.next() {
-        book.answer(heap, number, line, &mut answer)?;
+    for (number, line) in Lines::new(text).enumerate() {
+        book.answer(heap, number as u64, line, &mut answer)?;
         out.write_all(&answer)?;
         answer.clear();
-        number += 1;
     }
     out.flush()?;
     Ok(())

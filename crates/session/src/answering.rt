@@ -7,32 +7,29 @@ ghost use Rattle.session.specs.Books.{Brought, held};
 
 use crate::Book;
 use crate::rows::append_row;
-use certificate::{MOST, Rejection};
-use element::{Verdict, judge};
+use certificate::{MOST, PoolInput, Rejection};
+use element::{Ill, judge};
 use message::{append_bytes, append_chain, append_ill, append_none, append_refusal};
 use path::{Cursor, piece};
-use shortest::{Answer, find_chain, rejection_place};
+use shortest::{find_chain, rejection_place};
 use std::alloc::{AllocError, Global};
-use text::{Command, read_line};
+use text::{Command, LineError, read_line};
 
 // The elements of a paper, or the place at which its bytes are malformed.
 fn answer_paper(bytes: &[u8], out: &mut Vec<u8>) -> Result<(), AllocError>
     ensures { Puts (PaperAnswer bytes.now) result out.old.items out.new.items }
 {
     match judge(bytes) {
-        Verdict::Well => append_row(out, 0, Cursor::new(bytes)),
-        Verdict::Ill { at } => append_ill(out, at as u64),
+        Ok(()) => append_row(out, 0, Cursor::new(bytes)),
+        Err(Ill { at }) => append_ill(out, at as u64),
     }
 }
 
-// A part of bytes, or `none` if it is empty.
-fn append_part(out: &mut Vec<u8>, part: &[u8]) -> Result<(), AllocError>
-    ensures { Appends result out.old.items (part_text part.now) out.new.items }
+// A rejection and its place.
+fn refuse(out: &mut Vec<u8>, why: Rejection, place: u64) -> Result<(), AllocError>
+    ensures { Appends result out.old.items (refusal_text (number why) place) out.new.items }
 {
-    match part {
-        [] => append_none(out),
-        _ => append_bytes(out, part),
-    }
+    append_refusal(out, u64::from(why.number()), place)
 }
 
 impl Book {
@@ -40,10 +37,25 @@ impl Book {
     fn answer_piece(&self, paper: u64, path: &[u64], out: &mut Vec<u8>) -> Result<(), AllocError>
         ensures { Puts (PieceAnswer (held self.now).papers paper path.now) result out.old.items out.new.items }
     {
-        if paper >= self.papers.len() as u64 {
-            return append_refusal(out, Rejection::Unknown.number() as u64, paper);
+        let Some(bytes) = self.papers.get(paper as usize) else {
+            return refuse(out, Rejection::Unknown, paper);
+        };
+        match piece(bytes, path) {
+            Some(part) => append_bytes(out, part),
+            None => append_none(out),
         }
-        append_part(out, piece(&self.papers[paper as usize], path))
+    }
+
+    // What the papers and marks are as certificates.
+    fn input(&self) -> PoolInput<'_>
+        ensures { InputOf self.now result }
+    {
+        PoolInput {
+            count: self.papers.len() as u64,
+            certificates: &self.numbers,
+            signatures: &self.seals,
+            anchors: &self.trusted,
+        }
     }
 
     // A shortest chain, or that there is none, or the rejection of the question.
@@ -58,17 +70,13 @@ impl Book {
         requires { length buffer.old ≡ lent (held self.now) }
         ensures { Puts (ChainAnswer (held self.now) self.now.numbers.items line first day) result out.old.items out.new.items }
     {
-        let n = self.papers.len() as u64;
-        let numbers = self.numbers.as_slice();
-        let seals = self.seals.as_slice();
-        let trusted = self.trusted.as_slice();
-        match find_chain(n, numbers, seals, trusted, day, first, buffer) {
-            Answer::Chain(count) => append_chain(out, &buffer[0..count]),
-            Answer::NoChain => append_none(out),
-            Answer::Rejected(why) => {
+        let input = self.input();
+        match find_chain(input, day, first, buffer) {
+            Ok(Some(count)) => append_chain(out, &buffer[..count]),
+            Ok(None) => append_none(out),
+            Err(why) => {
                 let size = buffer.len() as u64;
-                let place = rejection_place(why, n, numbers, seals, trusted, first, size, line);
-                append_refusal(out, why.number() as u64, place)
+                refuse(out, why, rejection_place(why, input, first, size, line))
             }
         }
     }
@@ -85,7 +93,7 @@ impl Book {
     {
         let mut buffer = [0u16; MOST];
         let size = self.papers.len().min(MOST);
-        self.write_chain(line, first, day, &mut buffer[0..size], out)
+        self.write_chain(line, first, day, &mut buffer[..size], out)
     }
 
     // The answer to a line with a number, put behind the bytes.
@@ -98,12 +106,13 @@ impl Book {
     ) -> Result<(), AllocError>
         ensures { Puts (Answered (held self.now) self.now.numbers.items number (meaning line.now)) result out.old.items out.new.items }
     {
-        match read_line(heap, line)? {
-            Some(Command::Paper(bytes)) => answer_paper(&bytes, out),
-            Some(Command::Piece { paper, path }) => self.answer_piece(paper, &path, out),
-            Some(Command::Chain { first, day }) => self.answer_chain(number, first, day, out),
-            Some(_) => Ok(()),
-            None => append_refusal(out, Rejection::Line.number() as u64, number),
+        match read_line(heap, line) {
+            Ok(Command::Paper(bytes)) => answer_paper(&bytes, out),
+            Ok(Command::Piece { paper, path }) => self.answer_piece(paper, &path, out),
+            Ok(Command::Chain { first, day }) => self.answer_chain(number, first, day, out),
+            Ok(_) => Ok(()),
+            Err(LineError::Unreadable) => refuse(out, Rejection::Line, number),
+            Err(LineError::Memory(none)) => Err(none),
         }
     }
 }

@@ -1,13 +1,12 @@
 // A book made of a text.
-ghost use Rattle.std.specs.Prelude.{◌≡◌, IfOk, OnOk};
-ghost use Rattle.std.specs.Option.{option_map};
+ghost use Rattle.std.specs.Prelude.{◌≡◌, IfOk, OnOk, Some};
 ghost use Rattle.text.specs.Meaning.{says};
 ghost use Rattle.session.specs.Books.{no_more, added, brings, held, BookOf};
 
 use crate::Book;
 use crate::numbering::numbers_of;
 use std::alloc::{AllocError, Global};
-use text::{Command, read_line};
+use text::{Command, LineError, read_line};
 use tokens::Lines;
 
 impl Book {
@@ -23,14 +22,14 @@ impl Book {
         }
     }
 
-    // Takes in what a line brings.
-    fn note(&mut self, command: Option<Command>) -> Result<(), AllocError>
-        ensures { OnOk result (held self.new ≡ added (held self.old) (brings (option_map says command))) }
+    // Takes in what a command brings.
+    fn note(&mut self, command: Command) -> Result<(), AllocError>
+        ensures { OnOk result (held self.new ≡ added (held self.old) (brings (Some (says command)))) }
     {
         match command {
-            Some(Command::Paper(bytes)) => Ok(self.papers.push(bytes)?),
-            Some(Command::Seals(marks)) => self.seals.extend_from_slice(&marks),
-            Some(Command::Trusted(marks)) => self.trusted.extend_from_slice(&marks),
+            Command::Paper(bytes) => Ok(self.papers.push(bytes)?),
+            Command::Seals(marks) => self.seals.extend_from_slice(&marks),
+            Command::Trusted(marks) => self.trusted.extend_from_slice(&marks),
             _ => Ok(()),
         }
     }
@@ -40,10 +39,12 @@ impl Book {
         ensures { IfOk result (λ b. BookOf text.now b) }
     {
         let mut book = Book::new(heap);
-        let mut lines = Lines::new(text);
-        while let Some(line) = lines.next() {
-            let command = read_line(heap, line)?;
-            book.note(command)?;
+        for line in Lines::new(text) {
+            match read_line(heap, line) {
+                Ok(command) => book.note(command)?,
+                Err(LineError::Unreadable) => {}
+                Err(LineError::Memory(none)) => return Err(none),
+            }
         }
         book.numbers = numbers_of(heap, &book.papers)?;
         Ok(book)

@@ -15,11 +15,8 @@ mod tests {
     fn answers(heap: Global, text: &[u8]) -> Result<Vec<u8>, AllocError> {
         let book = Book::read(heap, text)?;
         let mut out = Vec::new(heap);
-        let mut lines = Lines::new(text);
-        let mut number = 0;
-        while let Some(line) = lines.next() {
-            book.answer(heap, number, line, &mut out)?;
-            number += 1;
+        for (number, line) in Lines::new(text).enumerate() {
+            book.answer(heap, number as u64, line, &mut out)?;
         }
         Ok(out)
     }

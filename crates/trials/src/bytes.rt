@@ -1,7 +1,7 @@
 // Strings of bytes: what is said of them, against a plain reader.
 use crate::draws::Draws;
 use crate::tally::Tally;
-use element::{Verdict, judge};
+use element::{Ill, judge};
 use path::piece;
 
 // A short string has at most so many bytes.
@@ -73,8 +73,8 @@ fn is_row(bytes: &[u8], levels: usize) -> bool {
 // Whether what is said of the bytes is what the plain reader says.
 fn agrees(bytes: &[u8], well: bool) -> bool {
     let judged = match judge(bytes) {
-        Verdict::Well => well,
-        Verdict::Ill { at } => !well && at <= bytes.len(),
+        Ok(()) => well,
+        Err(Ill { at }) => !well && at <= bytes.len(),
     };
     judged && piece(bytes, &[0]).is_some() == (well && !bytes.is_empty())
 }

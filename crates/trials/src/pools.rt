@@ -1,10 +1,10 @@
 // Pools of certificates: the chain that is found, against all chains.
 use crate::draws::Draws;
 use crate::tally::Tally;
-use certificate::pool_rejection;
+use certificate::PoolInput;
 use chain::judge_chain;
 use pool::PoolView;
-use shortest::{Answer, find_chain};
+use shortest::find_chain;
 use std::array;
 
 // A pool has at most so many certificates.
@@ -112,32 +112,26 @@ impl Pool {
 fn agrees(pool: &Pool, day: u32, least: Option<usize>) -> bool {
     let n = pool.count.min(MOST);
     let numbers = pool.certificates.map(Certificate::numbers);
-    let numbers = &numbers.as_flattened()[..6 * n];
-    let signatures = &pool.signatures[..n.saturating_mul(n).min(SIGNATURES)];
-    let anchors = &pool.anchors[..n];
-    let mut out = [0; MOST];
-    let answer = find_chain(
-        n as u64,
-        numbers,
-        signatures,
-        anchors,
-        u64::from(day),
-        0,
-        &mut out[..n],
-    );
-    let size = match answer {
-        Answer::Chain(size) => size,
-        Answer::NoChain => return least.is_none(),
-        Answer::Rejected(_) => return false,
+    let input = PoolInput {
+        count: n as u64,
+        certificates: &numbers.as_flattened()[..6 * n],
+        signatures: &pool.signatures[..n.saturating_mul(n).min(SIGNATURES)],
+        anchors: &pool.anchors[..n],
     };
-    if Some(size) != least || size > MOST {
+    let mut out = [0; MOST];
+    let Ok(found) = find_chain(input, u64::from(day), 0, &mut out[..n]) else {
         return false;
-    }
-    if pool_rejection(n as u64, numbers, signatures, anchors).is_some() {
+    };
+    let row = out.map(u64::from);
+    found == least && found.is_none_or(|size| is_chain(input, day, &row, size))
+}
+
+// Whether the first numbers of a row, so many, are judged to be a chain.
+fn is_chain(input: PoolInput, day: u32, row: &[u64], size: usize) -> bool {
+    let Ok(view) = PoolView::check(input) else {
         return false;
-    }
-    let view = PoolView::new(n as u64, numbers, signatures, anchors);
-    judge_chain(&view, u64::from(day), 0, &out.map(u64::from)[..size])
+    };
+    size <= row.len() && judge_chain(&view, u64::from(day), 0, &row[..size])
 }
 
 // Draws pools and tries them.

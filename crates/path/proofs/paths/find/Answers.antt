@@ -25,4 +25,4 @@ loop-number-preserved c =
 pub returns : goal.returns
 returns c =
     let o = last_number _ _ _ c.loop-number.number-index c.in_ok-last.ensures.cases.0 (omega arith) in
-    led_last _ _ _ _ c.loop-number.invariant _ o.0 o.1 c.in-Well.ensures _ _ c.nth-2.ensures.ran
+    led_last _ _ _ _ c.loop-number.invariant _ o.0 o.1 c.in-Ok.ensures _ _ c.nth-2.ensures.ran
