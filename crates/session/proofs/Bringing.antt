@@ -17,6 +17,10 @@ added_assoc a b c = λ i. record {
   trusted = append_assoc a.trusted b.trusted c.trusted i;
 }
 
+-- nothing more is brought
+pub added_none : (b : Brought) → b ≡ added b no_more
+added_none b i = record { papers = sym (append-nil b.papers) i; seals = sym (append-nil b.seals) i; trusted = sym (append-nil b.trusted) i }
+
 brought_line : (rest line left : List ℕ) → lines rest ≡ line ∷ lines left → brought rest ≡ added (brings (meaning line)) (brought left)
 brought_line rest line left e = λ i. record {
   papers = flat_map (λ l. (brings (meaning l)).papers) (e i);
@@ -43,7 +47,7 @@ noted_more text rest line left was is o h e m f =
 
 pub noted_all : (text rest : List ℕ) (noted : Brought) → Noted text noted rest → lines rest ≡ [] → noted ≡ brought text
 noted_all text rest noted h e =
-    (λ i. record { papers = sym (append-nil noted.papers) i; seals = sym (append-nil noted.seals) i; trusted = sym (append-nil noted.trusted) i })
+    added_none noted
     ∙ ap (added noted) (sym (brought_none rest e))
     ∙ h
 

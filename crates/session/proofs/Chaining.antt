@@ -1,12 +1,10 @@
 -- The answer to a question about a chain, from what the search answers. Assumes nothing.
-use Rattle.std.proofs.Common.{◌≡◌, ℕ, ◌-◌, ◌≤◌, List, map, length, take, drop, vec_items, vec_len, Vec, sym, ap, ◌∙◌, subst, arith}
+use Rattle.std.proofs.Common.{◌≡◌, ℕ, ◌-◌, ◌≤◌, List, map, length, take, drop, vec_items, vec_len, Vec, Some, None, Ok, Err, Option, Result, sym, ap, ◌∙◌, subst, arith}
 use Rattle.std.proofs.lemmas.List.{length-take-le, length-map}
 use Rattle.certificate.specs.Rejections.{number}
 use Rattle.certificate.specs.declared.Rejection.{Rejection}
 use Rattle.shortest.specs.Answers as search
 use Rattle.shortest.specs.Places.{Place}
-use Rattle.shortest.specs.declared.Answer.{Answer}
-use Rattle.shortest.specs.declared.Answer.TheVariants.{Chain as Found, NoChain, Rejected}
 use Rattle.message.specs.Texts.{chain_text, none_text, refusal_text}
 use Rattle.session.specs.Books.{Brought}
 use Rattle.session.specs.Answers.{lent, ChainAnswer, shortest, none, refused}
@@ -24,16 +22,20 @@ lent_size buffer size le = let same : size - 0 ≡ size = omega arith in ap (λ 
 pub papers_count : {Z : Type 0} (papers : Vec (Vec ℕ Z) Z) → vec_len papers ≡ length (map vec_items (vec_items papers))
 papers_count papers = papers.ok.0 ∙ sym (length-map (vec_items papers) vec_items)
 
+-- a paper that is looked up by its number is a paper in memory
+pub paper_at : {Z : Type 0} (papers : Vec (Vec ℕ Z) Z) (i : ℕ) (paper : Vec ℕ Z) → i < vec_len papers → paper ≡ slice_index_or (vec_items papers) i paper → vec_items paper ≡ slice_index_or (map vec_items (vec_items papers)) i []
+paper_at papers i paper less is = ap vec_items is ∙ sym (get_or-map vec_items (vec_items papers) i paper [] (omega (arith, papers.ok.0)))
+
 module _ (b : Brought) (numbers : List ℕ) (line first day : ℕ) (old new : List ℕ) (long : length old ≡ lent b) where
-  abbrev Asked : Answer → Type 0
+  abbrev Asked : Result (Option ℕ) Rejection → Type 0
   Asked a = search.Answers (length b.papers) numbers b.seals b.trusted day first old new a
 
-  pub chain_found : (k : ℕ) → Asked (Found k) → ChainAnswer b numbers line first day (chain_text (take k new))
+  pub chain_found : (k : ℕ) → Asked (Ok (Some k)) → ChainAnswer b numbers line first day (chain_text (take k new))
   chain_found k (ok, w) = shortest (ap (search.rejected_by (length b.papers) numbers b.seals b.trusted first) (sym long) ∙ ok) (take k new) w.shortest
 
-  pub chain_none : Asked NoChain → ChainAnswer b numbers line first day none_text
-  chain_none (ok, same, f) = none (ap (search.rejected_by (length b.papers) numbers b.seals b.trusted first) (sym long) ∙ ok) f
+  pub chain_none : Asked (Ok None) → ChainAnswer b numbers line first day none_text
+  chain_none (ok, (same, f)) = none (ap (search.rejected_by (length b.papers) numbers b.seals b.trusted first) (sym long) ∙ ok) f
 
-  pub chain_refused : (why : Rejection) → Asked (Rejected why) → (place : ℕ) → Place why (length b.papers) numbers b.seals b.trusted first (length old) line place → ChainAnswer b numbers line first day (refusal_text (number why) place)
+  pub chain_refused : (why : Rejection) → Asked (Err why) → (place : ℕ) → Place why (length b.papers) numbers b.seals b.trusted first (length old) line place → ChainAnswer b numbers line first day (refusal_text (number why) place)
   chain_refused why (is, same) place there =
-      refused why (is ∙ ap (search.rejected_by (length b.papers) numbers b.seals b.trusted first) long) place (subst (λ size. Place why (length b.papers) numbers b.seals b.trusted first size line place) long there)
+      refused why (ap (search.rejected_by (length b.papers) numbers b.seals b.trusted first) (sym long) ∙ is) place (subst (λ size. Place why (length b.papers) numbers b.seals b.trusted first size line place) long there)

@@ -1,5 +1,5 @@
 -- A row printed element by element. Assumes nothing.
-use Rattle.std.proofs.Common.{◌≡◌, ℕ, ◌+◌, ◌<◌, ◌≤◌, true, false, leb, List, [], ◌++◌, length, is_ok, is_err, None, Ok, Err, Result, sym, refl, ap, ◌∙◌, append_assoc, append-nil, arith, length-append}
+use Rattle.std.proofs.Common.{◌≡◌, ℕ, ◌+◌, ◌<◌, ◌≤◌, true, List, [], ◌++◌, length, is_ok, is_err, Some, None, Ok, Err, Result, sym, refl, ap, ◌∙◌, append_assoc, append-nil, arith, length-append}
 use Rattle.format.specs.Elements.{Row, empty, primitive, constructed, framed, written, Reads}
 use Rattle.format.proofs.Fronts.{same_front}
 use Rattle.format.proofs.Rows.{primitive_parts, constructed_parts, framed_size}
@@ -9,14 +9,14 @@ use Rattle.element.specs.Judged.{longest}
 use Rattle.path.specs.declared.walking.Cursor.{Cursor}
 use Rattle.path.specs.declared.walking.Element.{Element}
 use Rattle.element.proofs.Openings.{front_of}
-use Rattle.std.proofs.lemmas.Bool.{false≢true, le-leb, lt-leb}
+use Rattle.std.proofs.lemmas.Bool.{false≢true}
 use Rattle.message.specs.Texts.{element_text, Begins}
 use Rattle.session.specs.Rows.{row_text}
 
 -- the text of a row whose bytes begin with a primitive element, or with a constructed one
 data SplitText (d level : ℕ) (row : Row) (t : ℕ) (c r : List ℕ) : Type 0 where
-  plain : t < 128 → (behind : Row) → Reads d longest r behind → row_text level row ≡ element_text level t c false ++ row_text level behind → SplitText d level row t c r
-  nested : 128 ≤ t → (less : ℕ) (q : Row) → Reads less longest c q → (behind : Row) → Reads d longest r behind → row_text level row ≡ element_text level t c true ++ (row_text (level + 1) q ++ row_text level behind) → SplitText d level row t c r
+  plain : t < 128 → (behind : Row) → Reads d longest r behind → row_text level row ≡ element_text level t (Some c) ++ row_text level behind → SplitText d level row t c r
+  nested : 128 ≤ t → (less : ℕ) (q : Row) → Reads less longest c q → (behind : Row) → Reads d longest r behind → row_text level row ≡ element_text level t None ++ (row_text (level + 1) q ++ row_text level behind) → SplitText d level row t c r
 
 split_text : (d level : ℕ) (b : List ℕ) (row : Row) → Reads d longest b row → (t : ℕ) (c r : List ℕ) → b ≡ framed t c ++ r → SplitText d level row t c r
 unfolding written row_text
@@ -24,11 +24,11 @@ split_text d level b empty h t c r e = absurd (omega (arith, framed_size t c r, 
 split_text d level b (primitive u x rest) h t c r e =
     let s = same_front u t x c (written rest) r (h.writing ∙ e) in
     let p = primitive_parts d longest u x rest h.well in
-    plain (omega (arith, s.0, p.low)) rest (record { well = p.rest; writing = s.2 }) (λ i. element_text level (s.0 i) (s.1 i) false ++ row_text level rest)
+    plain (omega (arith, s.0, p.low)) rest (record { well = p.rest; writing = s.2 }) (λ i. element_text level (s.0 i) (Some (s.1 i)) ++ row_text level rest)
 split_text d level b (constructed u q rest) h t c r e =
     let s = same_front u t (written q) c (written rest) r (h.writing ∙ e) in
     let p = constructed_parts d longest u q rest h.well in
-    nested (omega (arith, s.0, p.high)) p.less q (record { well = p.within; writing = s.1 }) rest (record { well = p.rest; writing = s.2 }) (λ i. element_text level (s.0 i) [] true ++ (row_text (level + 1) q ++ row_text level rest))
+    nested (omega (arith, s.0, p.high)) p.less q (record { well = p.within; writing = s.1 }) rest (record { well = p.rest; writing = s.2 }) (λ i. element_text level (s.0 i) None ++ (row_text (level + 1) q ++ row_text level rest))
 
 -- some elements of a row have been printed behind the old bytes, and the rest is to be
 pub record Printed (level : ℕ) (start old items rest : List ℕ) : Type 0 where
@@ -70,21 +70,21 @@ ends_within {c} {x} {u} s = omega (arith, s.within, s.place, ap length s.front, 
 
 module _ (level : ℕ) (start old was : List ℕ) (c : Cursor) (x : Element) (u : Cursor) (p : Printed level start old was (ahead c)) (s : Passes c x u) where
   -- a primitive element is printed
-  pub printed_plain : (new : List ℕ) → x.tag < 128 → new ≡ was ++ element_text level x.tag x.contents.now (leb 128 x.tag) → Printed level start old new (ahead u)
-  printed_plain new low is = let e : new ≡ was ++ element_text level x.tag x.contents.now false = is ∙ ap (λ b. was ++ element_text level x.tag x.contents.now b) (lt-leb 128 x.tag low) in record {
+  pub printed_plain : (new : List ℕ) → x.tag < 128 → new ≡ was ++ element_text level x.tag (Some x.contents.now) → Printed level start old new (ahead u)
+  printed_plain new low e = record {
     front = begins_more old was new p.front (_, e);
     less = omega (arith, p.less, shorter s);
     on = λ d row h.
         let (left, reads, same) = p.on d row h in
         elim (split_text d level (ahead c) left reads x.tag x.contents.now (ahead u) (split_at s)) [
-          | plain low' behind r text ↦ (behind, r, same ∙ ap (λ l. was ++ l) text ∙ sym (append_assoc was (element_text level x.tag x.contents.now false) (row_text level behind)) ∙ ap (λ l. l ++ row_text level behind) (sym e))
+          | plain low' behind r text ↦ (behind, r, same ∙ ap (λ l. was ++ l) text ∙ sym (append_assoc was (element_text level x.tag (Some x.contents.now)) (row_text level behind)) ∙ ap (λ l. l ++ row_text level behind) (sym e))
           | nested high less q rq behind r text ↦ absurd (omega arith)
         ];
   }
 
   -- a constructed element is printed, and what stands within it
-  pub printed_nested : (mid new : List ℕ) → 128 ≤ x.tag → mid ≡ was ++ element_text level x.tag x.contents.now (leb 128 x.tag) → Begins mid new → ((d : ℕ) (row : Row) → Reads d longest x.contents.now row → new ≡ mid ++ row_text (level + 1) row) → Printed level start old new (ahead u)
-  printed_nested mid new high is begins inner = let e : mid ≡ was ++ element_text level x.tag x.contents.now true = is ∙ ap (λ b. was ++ element_text level x.tag x.contents.now b) (le-leb 128 x.tag high) in record {
+  pub printed_nested : (mid new : List ℕ) → 128 ≤ x.tag → mid ≡ was ++ element_text level x.tag None → Begins mid new → ((d : ℕ) (row : Row) → Reads d longest x.contents.now row → new ≡ mid ++ row_text (level + 1) row) → Printed level start old new (ahead u)
+  printed_nested mid new high e begins inner = record {
     front = begins_more old was new p.front (begins_more was mid new (_, e) begins);
     less = omega (arith, p.less, shorter s);
     on = λ d row h.
@@ -92,7 +92,7 @@ module _ (level : ℕ) (start old was : List ℕ) (c : Cursor) (x : Element) (u 
         elim (split_text d level (ahead c) left reads x.tag x.contents.now (ahead u) (split_at s)) [
           | plain low behind r text ↦ absurd (omega arith)
           | nested high' less q rq behind r text ↦
-              let own = element_text level x.tag x.contents.now true in
+              let own = element_text level x.tag None in
               let within = row_text (level + 1) q in
               (behind, r, same ∙ ap (λ l. was ++ l) text ∙ sym (append_assoc was own (within ++ row_text level behind)) ∙ ap (λ l. l ++ (within ++ row_text level behind)) (sym e) ∙ sym (append_assoc mid within (row_text level behind)) ∙ ap (λ l. l ++ row_text level behind) (sym (inner less q rq)))
         ];

@@ -21,22 +21,22 @@ pub data PaperAnswer (bytes : List ℕ) : (text : List ℕ) → Type 0 where
   well : (row : Row) → Reads deepest longest bytes row → PaperAnswer bytes (row_text 0 row)
   ill : (at : ℕ) → ((row : Row) → Reads deepest longest bytes row → ⊥) → IllAt deepest longest bytes at → PaperAnswer bytes (ill_text at)
 
--- a part of bytes; `none` if it is empty
-abbrev pub part_text : List ℕ → List ℕ
-part_text [] = none_text
-part_text (b ∷ part) = bytes_text (b ∷ part)
+-- a part of bytes; `none` if there is none
+abbrev pub part_text : Option (List ℕ) → List ℕ
+part_text (Some part) = bytes_text part
+part_text None = none_text
 
 -- `piece P W W ..`: the part of paper P by the path, or a refusal if there is no paper P
 pub data PieceAnswer (papers : List (List ℕ)) (p : ℕ) (path : List ℕ) : (text : List ℕ) → Type 0 where
-  there : p < length papers → (part : List ℕ) → Piece (slice_index_or papers p []) path part → PieceAnswer papers p path (part_text part)
+  there : p < length papers → (part : Option (List ℕ)) → Piece (slice_index_or papers p []) path part → PieceAnswer papers p path (part_text part)
   no_paper : length papers ≤ p → PieceAnswer papers p path (refusal_text (number Unknown) p)
 
 -- the size of the output buffer that is lent: a number for each paper, and no more than are taken
 abbrev pub lent : Brought → ℕ
 lent b = min (length b.papers) most
 
--- the number of the first rejection that applies to a question about a chain, 0 if none does
-abbrev pub refused_by : Brought → (numbers : List ℕ) → (first : ℕ) → ℕ
+-- the first rejection that applies to a question about a chain, if any
+abbrev pub refused_by : Brought → (numbers : List ℕ) → (first : ℕ) → Option Rejection
 refused_by b numbers first = rejected_by (length b.papers) numbers b.seals b.trusted first (lent b)
 
 -- the pool of certificates that the papers and marks say
@@ -45,9 +45,9 @@ pool_of b numbers = pool (length b.papers) numbers b.seals b.trusted
 
 -- `chain A day D`: a shortest chain, `none` if there is no chain, or the first rejection that applies and its place
 pub data ChainAnswer (b : Brought) (numbers : List ℕ) (line first day : ℕ) : (text : List ℕ) → Type 0 where
-  shortest : refused_by b numbers first ≡ 0 → (row : List ℕ) → Shortest (pool_of b numbers) day first row → ChainAnswer b numbers line first day (chain_text row)
-  none : refused_by b numbers first ≡ 0 → ((row : List ℕ) → Chain (pool_of b numbers) day first row → ⊥) → ChainAnswer b numbers line first day none_text
-  refused : (why : Rejection) → number why ≡ refused_by b numbers first → (place : ℕ) → Place why (length b.papers) numbers b.seals b.trusted first (lent b) line place → ChainAnswer b numbers line first day (refusal_text (number why) place)
+  shortest : refused_by b numbers first ≡ None → (row : List ℕ) → Shortest (pool_of b numbers) day first row → ChainAnswer b numbers line first day (chain_text row)
+  none : refused_by b numbers first ≡ None → ((row : List ℕ) → Chain (pool_of b numbers) day first row → ⊥) → ChainAnswer b numbers line first day none_text
+  refused : (why : Rejection) → refused_by b numbers first ≡ Some why → (place : ℕ) → Place why (length b.papers) numbers b.seals b.trusted first (lent b) line place → ChainAnswer b numbers line first day (refusal_text (number why) place)
 
 -- the answer to a line with a number, by what it says
 abbrev pub Answered : (b : Brought) → (numbers : List ℕ) → (line : ℕ) → Option Says → (text : List ℕ) → Type 0

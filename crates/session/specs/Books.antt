@@ -1,10 +1,11 @@
 -- All that a text brings, and the numbers of its permits. Assumes nothing: these are definitions.
-use Rattle.std.specs.Prelude.{◌≡◌, ℕ, cond, List, [], ◌∷◌, ◌++◌, map, Some, None, vec_items, Option}
+use Rattle.std.specs.Prelude.{◌≡◌, ℕ, cond, List, [], ◌∷◌, ◌++◌, length, map, Some, None, vec_items, Option}
 use Rattle.std.specs.List.{flat_map}
 use Rattle.trust.specs.Chains.{Certificate}
 use Rattle.encoding.specs.Permits.{permit_bytes, InRange}
 use Rattle.text.specs.Meaning.{Says, nothing, paper, seals, trusted, piece, chain, meaning}
 use Rattle.tokens.specs.Pieces.{lines}
+use Rattle.certificate.specs.declared.PoolInput.{PoolInput}
 use Rattle.session.specs.declared.Book.{Book}
 
 -- papers, marks of seals and marks of trusted papers
@@ -56,6 +57,13 @@ pub data Numbers : (papers : List (List ℕ)) → (numbers : List ℕ) → Type 
 -- the bytes of the papers in memory
 abbrev pub held : Book → Brought
 held b = record { papers = map vec_items (vec_items b.papers); seals = vec_items b.seals; trusted = vec_items b.trusted }
+
+-- what the papers and marks in memory are as the input of a pool
+pub record InputOf (b : Book) (input : PoolInput) : Type 0 where
+  pub count : input.count ≡ length (held b).papers
+  pub certificates : input.certificates.now ≡ vec_items b.numbers
+  pub signatures : input.signatures.now ≡ vec_items b.seals
+  pub anchors : input.anchors.now ≡ vec_items b.trusted
 
 -- a book holds all that a text brings, and the numbers of its papers
 pub record BookOf (text : List ℕ) (b : Book) : Type 0 where

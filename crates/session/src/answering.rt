@@ -1,9 +1,10 @@
 // The answers to lines.
 ghost use Rattle.std.specs.Prelude.{◌≡◌, length};
+ghost use Rattle.certificate.specs.Rejections.{number};
 ghost use Rattle.text.specs.Meaning.{meaning};
-ghost use Rattle.message.specs.Texts.{Appends};
-ghost use Rattle.session.specs.Answers.{part_text, lent, PaperAnswer, PieceAnswer, ChainAnswer, Answered, Puts};
-ghost use Rattle.session.specs.Books.{Brought, held};
+ghost use Rattle.message.specs.Texts.{Appends, refusal_text};
+ghost use Rattle.session.specs.Answers.{lent, PaperAnswer, PieceAnswer, ChainAnswer, Answered, Puts};
+ghost use Rattle.session.specs.Books.{Brought, InputOf, held};
 
 use crate::Book;
 use crate::rows::append_row;

@@ -1,12 +1,11 @@
 // The elements of a row, printed.
-ghost use Rattle.std.specs.Prelude.{◌≡◌, ℕ, ◌+◌, ◌^◌, ◌<◌, true, ◌++◌, length, is_ok};
+ghost use Rattle.std.specs.Prelude.{◌≡◌, ℕ, ◌+◌, ◌^◌, ◌<◌, ◌++◌, length, OnOk};
 ghost use Rattle.format.specs.Elements.{Row, Reads};
-ghost use Rattle.path.specs.Cursors.{ahead};
+ghost use Rattle.path.specs.Cursors.{PlacesFit, ahead};
 ghost use Rattle.element.specs.Judged.{longest};
 ghost use Rattle.message.specs.Texts.{Begins};
 ghost use Rattle.session.specs.Rows.{row_text};
 
-use element::Reader;
 use message::append_element;
 use path::Cursor;
 use std::alloc::AllocError;
@@ -17,18 +16,19 @@ pub(crate) fn append_row(
     level: usize,
     cursor: Cursor<'_>,
 ) -> Result<(), AllocError>
-    requires places { cursor.at + length (ahead cursor) < 2 ^ 64 }
+    requires places { PlacesFit cursor }
     requires levels { level + length (ahead cursor) < 2 ^ 64 }
     ensures front { Begins out.old.items out.new.items }
-    ensures shown { is_ok result ≡ true → (depth : ℕ) (row : Row) → Reads depth longest (ahead cursor.entry) row → out.new.items ≡ out.old.items ++ row_text level row }
+    ensures shown { OnOk result ((depth : ℕ) (row : Row) → Reads depth longest (ahead cursor.entry) row → out.new.items ≡ out.old.items ++ row_text level row) }
 {
     for element in cursor {
-        let constructed = element.tag >= Reader::CONSTRUCTED;
-        append_element(out, level, element.tag, element.contents, constructed)?;
-        if !constructed {
-            continue;
+        match element.row() {
+            None => append_element(out, level, element.tag, Some(element.contents))?,
+            Some(row) => {
+                append_element(out, level, element.tag, None)?;
+                append_row(out, level + 1, row)?;
+            }
         }
-        append_row(out, level + 1, element.inside())?;
     }
     Ok(())
 }

@@ -16,7 +16,7 @@ mod tests {
         let mut out = Vec::new(heap);
         match read_line(heap, line) {
             Err(LineError::Unreadable) => append_none(&mut out)?,
-            Err(LineError::Memory) => return Err(AllocError),
+            Err(LineError::Memory(error)) => return Err(error),
             Ok(Command::Nothing) => out.extend_from_slice(b"nothing\n")?,
             Ok(Command::Paper(bytes)) => {
                 out.extend_from_slice(b"paper ")?;

@@ -6,11 +6,10 @@ use Rattle.session.specs.Answers.{PaperAnswer, well, ill}
 use Rattle.session.proofs.Putting.{puts, puts_if_ok}
 use Rattle.session.proofs.answering.answer_paper.Goals as goal
 
-pub returns-in-Well : goal.returns-in-Well
-returns-in-Well c =
-    let (row, reads) = c.in-Well.ensures in
-    puts_if_ok (PaperAnswer c.args.bytes.now) _ _ (row_text 0 row) _ (well row reads) c.append_row.ensures.front
-    (λ ok. c.append_row.ensures.shown ok deepest row (subst (λ b. Reads deepest longest b row) (sym c.new.ensures.rest) reads))
+pub returns-in-Ok : goal.returns-in-Ok
+returns-in-Ok c =
+    let (row, reads) = c.in-Ok.ensures in
+    puts_if_ok (PaperAnswer c.args.bytes.now) _ _ (row_text 0 row) _ _ (well row reads) c.append_row.ensures.front c.append_row.ensures.shown (λ shown. shown deepest row (subst (λ b. Reads deepest longest b row) (sym c.new.ensures.rest) reads))
 
-pub returns-in-Ill : goal.returns-in-Ill
-returns-in-Ill c = puts (PaperAnswer c.args.bytes.now) _ _ _ _ (ill _ c.in-Ill.ensures.0 c.in-Ill.ensures.1) c.append_ill.ensures
+pub returns-in-Err : goal.returns-in-Err
+returns-in-Err c = puts (PaperAnswer c.args.bytes.now) _ _ _ _ (ill _ c.in-Err.ensures.0 c.in-Err.ensures.1) c.append_ill.ensures
