@@ -1,12 +1,12 @@
 -- How the search starts and what it writes in the end. Assumes nothing.
-use Rattle.std.proofs.Common.{◌≡◌, ℕ, ◌+◌, ◌-◌, ◌<◌, ◌≤◌, true, List, length, get_or, take, set, replicate, sym, ap, ◌∙◌, ⊎_elim, arith}
+use Rattle.std.proofs.Common.{◌≡◌, ℕ, ◌+◌, ◌-◌, ◌<◌, ◌≤◌, true, List, length, get_or, take, set, replicate, sym, ap, ◌∙◌, arith}
 use lib.ListN.{length-replicate}
-use Rattle.std.proofs.lemmas.List.{get_or-take, get_or_past, get_or-replicate, length-take-le}
-use Rattle.std.proofs.lemmas.Bool.{cases_lt}
+use Rattle.std.proofs.lemmas.List.{get_or-take, length-take-le}
 use Rattle.trust.specs.Chains.{Pool, holds}
 use Rattle.trust.specs.Layers.{Layers, Top, down}
 use Rattle.trust.proofs.Found.{laid_out}
 use Rattle.trust.proofs.Layers.{begun, explored_below}
+use Rattle.shortest.proofs.Steps.{same_at}
 use Rattle.shortest.specs.Answers.{Written}
 use Rattle.shortest.specs.LaidOut.{LaidOut}
 
@@ -19,7 +19,7 @@ blank_long n = length-replicate n 0
 
 blank_zero : (n a : ℕ) → get_or (blank n) a 0 ≡ 0
 unfolding blank
-blank_zero n a = ⊎_elim (λ l. get_or-replicate n a 0 0 l) (λ l. get_or_past (blank n) a 0 (omega (arith, blank_long n))) (cases_lt a n)
+blank_zero n a = same_at n a 0
 
 pub started : (p : Pool) (day first n : ℕ) (far from order : List ℕ) (size over : ℕ) → far ≡ set (replicate n 0) first 1 → from ≡ replicate n 0 → order ≡ set (replicate n 0) 0 first → size ≡ 1 → over ≡ 0 → first < p.count → holds (p.certificate first) day ≡ true → p.count ≤ n → Layers p day first far from order size over 0
 unfolding blank

@@ -3,3 +3,4 @@ pub mod Kept
 pub mod LaidOut
 pub mod Places
 pub mod Promise
+pub mod Steps

@@ -29,16 +29,16 @@ fn find(asked: &Query, out: &mut [u16]) -> Option<usize>
     if !asked.view.at(asked.first).holds(asked.day) {
         return None;
     }
-    let mut reached = Reached::begin(asked.first);
+    let mut reached = Reached::begin(asked);
     let top = reached.climb(asked)?;
-    let count = usize::from(reached.far[top]);
-    lay_out(&reached.from, top, count, out);
+    let count = reached.layer(top) + 1;
+    lay_out(&reached, top, count, out);
     Some(count)
 }
 
 // How many certificates a shortest chain from certificate `first` up to a trust anchor on a day has, if there is one, or why the input is rejected; the chain is written to the front of the output buffer.
-pub fn find_chain<'a>(
-    input: PoolInput<'a>,
+pub fn find_chain(
+    input: PoolInput,
     day: u64,
     first: u64,
     out: &mut [u16],

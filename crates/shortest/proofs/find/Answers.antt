@@ -4,6 +4,7 @@ use Rattle.trust.proofs.Found.{not_held}
 use Rattle.certificate.specs.Sixes.{most}
 use Rattle.pool.proofs.Members.{said_at}
 use Rattle.shortest.proofs.Ends.{started, written}
+use Rattle.shortest.specs.Steps.{far, from}
 use Rattle.shortest.proofs.find.Goals as goal
 
 pub returns-then-not-holds : goal.returns-then-not-holds
@@ -18,11 +19,11 @@ lay_out-requires c =
     let top = c.in_ok-top.ensures in
     record {
       top_fits = omega (arith, top.1.known, c.args.asked.now.view.few);
-      count_fits = omega (arith, c.from-count.ensures, top.1.layer, top.1.few, c.requires);
+      count_fits = omega (arith, c.layer-count.ensures, top.1.layer, top.1.few, c.requires);
       from_fits = λ a. omega (arith, top.1.tree.below a, c.args.asked.now.view.few);
     }
 
 pub returns : goal.returns
 returns c =
     let top = c.in_ok-top.ensures in
-    written _ _ _ c.climb.new.self.far c.climb.new.self.from top.0 c.in_ok-top.top _ _ _ top.1 (c.from-count.ensures ∙ top.1.layer) c.requires c.lay_out.ensures
+    written _ _ _ (far c.climb.new.self.steps) (from c.climb.new.self.steps) top.0 c.in_ok-top.top _ _ _ top.1 (sym c.layer-count.ensures ∙ top.1.layer) c.requires c.lay_out.ensures

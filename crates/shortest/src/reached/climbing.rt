@@ -1,34 +1,49 @@
 // The way up: those reached get their turns in the order in which they were reached, so layer by layer.
-ghost use Rattle.std.specs.Prelude.{◌≡◌, ℕ, ◌+◌, ◌<◌, false, replicate, MatchOption, slice_set};
+ghost use Rattle.std.specs.Prelude.{◌≡◌, ℕ, ◌+◌, ◌<◌, false, replicate, MatchOption, slice_index, slice_set};
 ghost use Rattle.certificate.specs.Sixes.{most};
 ghost use Rattle.pool.specs.Views.{view_pool};
 ghost use Rattle.shortest.specs.Kept.{Kept, Next, Topped, NoneUp};
+ghost use Rattle.shortest.specs.Steps.{far, from};
 
 use crate::query::Query;
-use crate::reached::Reached;
+use crate::reached::{Reached, Step};
 use certificate::MOST;
 
 impl Reached {
-    // Only the first certificate is reached.
-    pub(crate) fn begin(first: usize) -> Reached
-        requires { first < most }
-        ensures far { result.far ≡ slice_set (replicate most 0) first 1 }
-        ensures from { result.from ≡ replicate most 0 }
-        ensures order { result.order ≡ slice_set (replicate most 0) 0 first }
+    // Only the certificate that is asked about is reached.
+    pub(crate) fn begin(asked: &Query) -> Reached
+        ensures far { far result.steps ≡ slice_set (replicate most 0) asked.now.first 1 }
+        ensures from { from result.steps ≡ replicate most 0 }
+        ensures order { result.order ≡ slice_set (replicate most 0) 0 asked.now.first }
         ensures size { result.size ≡ 1 }
         ensures over { result.over ≡ 0 }
     {
-        let mut far = [0; MOST];
-        far[first] = 1;
+        let mut steps = [None; MOST];
+        steps[asked.first] = Some(Step { layer: 0, below: 0 });
         let mut order = [0; MOST];
-        order[0] = first as u8;
+        order[0] = asked.first as u8;
         Reached {
-            far,
-            from: [0; MOST],
+            steps,
             order,
             size: 1,
             over: 0,
         }
+    }
+
+    // The layer in which a was reached.
+    pub(crate) fn layer(&self, a: usize) -> usize
+        requires { 0 < slice_index (far self.now.steps) a }
+        ensures { slice_index (far self.now.steps) a ≡ result + 1 }
+    {
+        usize::from(self.steps[a].unwrap().layer)
+    }
+
+    // The one below a, 0 if a was not reached.
+    pub(crate) fn below(&self, a: usize) -> usize
+        requires { a < most }
+        ensures { result ≡ slice_index (from self.now.steps) a }
+    {
+        self.steps[a].map_or(0, |step| usize::from(step.below))
     }
 
     // The turn of y above x, which is in layer k.
@@ -39,9 +54,11 @@ impl Reached {
         ensures next { Next self.new self.old.over k x }
         ensures kept { Kept asked.now self.new (y + 1) }
     {
-        if self.far[y] == 0 && asked.follows(k, x, y) {
-            self.far[y] = (k + 2) as u8;
-            self.from[y] = x as u8;
+        if self.steps[y].is_none() && asked.follows(k, x, y) {
+            self.steps[y] = Some(Step {
+                layer: (k + 1) as u8,
+                below: x as u8,
+            });
             self.order[self.size] = y as u8;
             self.size += 1;
         }
@@ -70,12 +87,13 @@ impl Reached {
         requires { Kept asked.now self.old 0 }
         ensures { MatchOption result (NoneUp asked.now) (λ a. (k : ℕ) × Topped asked.now self.new k a) }
     {
+        // More are reached on the way: the one at `over` keeps its turn until all above it are.
         while self.over < self.size {
             let x = usize::from(self.order[self.over]);
             if asked.view.at(x).is_anchor() {
                 return Some(x);
             }
-            let k = usize::from(self.far[x]) - 1;
+            let k = self.layer(x);
             self.turn(asked, k, x);
         }
         None

@@ -7,8 +7,8 @@ loop-i-init c = record { laying = begun _ _ _ _; fits = c.requires.top_fits }
 
 pub loop-i-preserved : goal.loop-i-preserved
 loop-i-preserved c = record {
-  laying = laid _ _ _ _ _ _ _ _ c.loop-i.invariant.laying c.loop-i-test.true c.loop-i.auto.i c.requires.count_fits c.from-at.ensures;
-  fits = omega (arith, c.from-at.ensures, c.requires.from_fits c.loop-i.at);
+  laying = laid _ _ _ _ _ _ _ _ c.loop-i.invariant.laying c.loop-i-test.true c.loop-i.auto.i c.requires.count_fits c.below-at.ensures;
+  fits = omega (arith, c.below-at.ensures, c.requires.from_fits c.loop-i.at);
 }
 
 pub returns : goal.returns
