@@ -5,7 +5,7 @@ ghost use Rattle.element.specs.Judged.{Judged, deepest, longest};
 ghost use Rattle.element.specs.Openings.{Opened, Decides};
 
 use length::Length;
-use progress::ill_place;
+use progress::{Progress, ill_place};
 
 // The place of malformed bytes: the first byte after which no bytes behind could make them a row, or how many there are.
 #[derive(Clone, Copy, PartialEq, Eq, Debug)]
@@ -44,11 +44,11 @@ pub struct Reader;
 
 impl Reader {
     // Constructed elements stand within one another at most so deep.
-    pub const MAX_DEPTH: usize = 8;
+    pub const MAX_DEPTH: usize = Progress::MAX_DEPTH;
     // Contents have at most so many bytes.
     pub const MAX_LENGTH: usize = 65_535;
     // Tags from this one on are of constructed elements.
-    pub const CONSTRUCTED: u8 = 128;
+    pub const CONSTRUCTED: u8 = Progress::CONSTRUCTED;
 
     // The element at the front of the bytes.
     pub fn open(bytes: &[u8]) -> Option<Opening>
