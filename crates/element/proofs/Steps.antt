@@ -1,13 +1,12 @@
 -- How a reader goes from element to element: what is behind the first one, or within it, decides. Assumes nothing.
-use Rattle.std.proofs.Common.{◌≡◌, ℕ, zero, suc, ◌+◌, ◌-◌, ◌<◌, ◌≤◌, Bool, true, false, eqb, List, [], length, get_or, take, drop, sym, subst, ⊎_elim, arith, length-drop, length-take-le}
+use Rattle.std.proofs.Common.{◌≡◌, ℕ, zero, suc, ◌+◌, ◌-◌, ◌<◌, ◌≤◌, Bool, true, false, List, [], length, get_or, take, drop, sym, ◌∙◌, subst, arith, length-drop, length-take-le}
 use Rattle.std.proofs.lemmas.List.{nil_from_length, drop_all, take_all, take_rest}
-use Rattle.std.proofs.lemmas.Bool.{eq-eqb, ne_eqb, cases_eq}
 use Rattle.format.specs.Elements.{all_bytes, Readable}
 use Rattle.format.proofs.Bytes.{all_bytes_drop, all_bytes_take}
 use Rattle.format.proofs.Readings.{readable_none, after_primitive, after_constructed, contents_malformed, too_deep, no_front}
 use Rattle.element.specs.Judged.{longest}
 use Rattle.element.specs.Openings.{Opens, Decides}
-use Rattle.element.proofs.Openings.{Shut, front_of, opens_short, shut_few}
+use Rattle.element.proofs.Openings.{Shut, front_of, opens_short}
 
 module _ (b : List ℕ) (t s e : ℕ) (o : Opens b t s e) where
   -- the contents of the first element
@@ -68,10 +67,6 @@ module _ (d left : ℕ) (b rest : List ℕ) (h : Decides d b left rest) where
       subst (Decides d b less) (sym (take_rest rest n))
       (record { shorter = omega (arith, h.shorter, length-drop n rest); bytes = all_bytes_drop n rest h.bytes; same = λ v k. h.same v (step v k) })
 
-  pub decides_short : 2 ≤ length rest → get_or rest 0 0 < 128 → get_or rest 1 0 < 128 → 2 + get_or rest 1 0 ≤ length rest → Decides d b left (take (length rest - (2 + get_or rest 1 0)) (drop (2 + get_or rest 1 0) rest))
-  decides_short header low short fits =
-      decides_behind (2 + get_or rest 1 0) left (step_primitive rest (get_or rest 0 0) 2 (2 + get_or rest 1 0) (opens_short rest header (omega arith) short fits) left low h.bytes)
-
   module _ (t s e : ℕ) (o : Opens rest t s e) where
     pub decides_primitive : t < 128 → Decides d b left (take (length rest - e) (drop e rest))
     decides_primitive low = decides_behind e left (step_primitive rest t s e o left low h.bytes)
@@ -91,6 +86,11 @@ module _ (d left : ℕ) (b rest : List ℕ) (h : Decides d b left rest) where
   pub decides_shut : 0 < length rest → Shut rest → Readable d longest b false
   decides_shut some f = h.same false (step_shut left rest some f)
 
-  -- fewer than two bytes: none is the end of a row, one is no element
-  pub decides_end : length rest < 2 → Readable d longest b (eqb (length rest) 0)
-  decides_end few = ⊎_elim (λ e. subst (Readable d longest b) (sym (eq-eqb (length rest) 0 e)) (h.same true (step_end left rest e))) (λ n. subst (Readable d longest b) (sym (ne_eqb (length rest) 0 n)) (decides_shut (omega arith) (shut_few rest few))) (cases_eq (length rest) 0)
+  pub decides_end : length rest ≡ 0 → Readable d longest b true
+  decides_end none = h.same true (step_end left rest none)
+
+-- what is behind a short primitive at the front decides
+pub decides_short : (d : ℕ) (b part : List ℕ) (n : ℕ) → all_bytes b ≡ true → 2 ≤ length b → get_or b 0 0 < 128 → n < 128 → n ≡ get_or b 1 0 → 2 + n ≤ length b → part ≡ drop (2 + n) b → Decides d b d part
+decides_short d b part n bytes header low short e fits behind =
+    subst (Decides d b d) (take_rest b (2 + n) ∙ sym behind)
+    (decides_behind d d b b (decides_start d b bytes) (2 + n) d (step_primitive b (get_or b 0 0) 2 (2 + n) (subst (λ k. Opens b (get_or b 0 0) 2 (2 + k)) (sym e) (opens_short b header (omega arith) (omega arith) (omega arith))) d low bytes))

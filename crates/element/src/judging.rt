@@ -1,11 +1,11 @@
 // Bytes judged: whether they are a row of elements.
-ghost use Rattle.std.specs.Prelude.{◌≡◌, ℕ, ◌≤◌, true, length};
-ghost use Rattle.format.specs.Elements.{all_bytes, Readable};
+ghost use Rattle.std.specs.Prelude.{ℕ, ◌-◌, ◌<◌, length, IfSome};
+ghost use Rattle.format.specs.Elements.{Readable};
 ghost use Rattle.element.specs.Judged.{Judged, deepest, longest};
 ghost use Rattle.element.specs.Openings.{Opened, Decides};
 
 use length::Length;
-use progress::ill_place;
+use progress::{Progress, ill_place};
 
 // The place of malformed bytes: the first byte after which no bytes behind could make them a row, or how many there are.
 #[derive(Clone, Copy, PartialEq, Eq, Debug)]
@@ -44,28 +44,26 @@ pub struct Reader;
 
 impl Reader {
     // Constructed elements stand within one another at most so deep.
-    pub const MAX_DEPTH: usize = 8;
+    pub const MAX_DEPTH: usize = Progress::MAX_DEPTH;
     // Contents have at most so many bytes.
     pub const MAX_LENGTH: usize = 65_535;
     // Tags from this one on are of constructed elements.
-    pub const CONSTRUCTED: u8 = 128;
-    // A tag and the shortest length.
-    const HEADER: usize = 2;
+    pub const CONSTRUCTED: u8 = Progress::CONSTRUCTED;
 
     // The element at the front of the bytes.
     pub fn open(bytes: &[u8]) -> Option<Opening>
         ensures { Opened bytes.now result }
     {
-        if bytes.len() < 1 {
+        let [tag, behind @ ..] = bytes else {
             return None;
-        }
-        let Length { value, size } = Length::read(&bytes[1..])?;
+        };
+        let Length { value, size } = Length::read(behind)?;
         let start = 1 + size;
         if value > bytes.len() - start {
             return None;
         }
         Some(Opening {
-            tag: bytes[0],
+            tag: *tag,
             start,
             end: start + value,
         })
@@ -85,17 +83,10 @@ impl Reader {
     {
         let mut rest = bytes;
         let mut left = depth;
-        while rest.len() >= Reader::HEADER {
-            let size = rest[1];
-            if rest[0] < Reader::CONSTRUCTED {
-                if size < Length::SHORT {
-                    let behind = Reader::HEADER + size as usize;
-                    if behind > rest.len() {
-                        return false;
-                    }
-                    rest = &rest[behind..];
-                    continue;
-                }
+        while !rest.is_empty() {
+            if let Some(behind) = Reader::behind_short(rest) {
+                rest = behind;
+                continue;
             }
             let Some(Opening { tag, start, end }) = Reader::open(rest) else {
                 return false;
@@ -118,7 +109,7 @@ impl Reader {
             }
             rest = behind;
         }
-        rest.len() == 0
+        true
     }
 
     // Whether the contents of a constructed element are a row: what needs no call is passed over first.
@@ -127,54 +118,57 @@ impl Reader {
         ensures { Readable depth longest bytes.now result }
     {
         let rest = Reader::advance(bytes, depth);
-        rest.bytes.len() == 0 || Reader::row(rest.bytes, rest.depth)
+        rest.bytes.is_empty() || Reader::row(rest.bytes, rest.depth)
     }
 
     // What is left behind the short primitives at the front, within a short constructed element that is the last too.
     fn advance<'a>(bytes: &'a [u8], depth: usize) -> Rest<'a>
-        ensures shorter { length result.bytes.now ≤ length bytes.now }
-        ensures decides { all_bytes bytes.now ≡ true → Decides depth bytes.now result.depth result.bytes.now }
+        ensures { Decides depth bytes.now result.depth result.bytes.now }
     {
-        let mut rest = Reader::skip(bytes);
-        let mut left = depth;
-        while rest.len() >= Reader::HEADER {
-            let size = rest[1];
-            if rest[0] < Reader::CONSTRUCTED || size >= Length::SHORT {
-                break;
-            }
-            let end = Reader::HEADER + size as usize;
-            if left == 0 || end != rest.len() {
-                break;
-            }
-            rest = Reader::skip(&rest[Reader::HEADER..]);
-            left -= 1;
+        let bytes = Reader::skip(bytes);
+        let mut rest = Rest { bytes, depth };
+        while let Some(contents) = Reader::within_short(rest.bytes)
+            && rest.depth > 0
+        {
+            rest.bytes = Reader::skip(contents);
+            rest.depth -= 1;
         }
-        Rest {
-            bytes: rest,
-            depth: left,
-        }
+        rest
     }
 
     // What is left behind the short primitives at the front.
     fn skip(bytes: &[u8]) -> &[u8]
-        ensures shorter { length result.now ≤ length bytes.now }
-        ensures decides { all_bytes bytes.now ≡ true → (depth : ℕ) → Decides depth bytes.now depth result.now }
+        ensures { (depth : ℕ) → Decides depth bytes.now depth result.now }
     {
         let mut rest = bytes;
-        while rest.len() >= Reader::HEADER {
-            let size = rest[1];
-            if rest[0] >= Reader::CONSTRUCTED {
-                return rest;
-            }
-            if size >= Length::SHORT {
-                return rest;
-            }
-            let behind = Reader::HEADER + size as usize;
-            if behind > rest.len() {
-                return rest;
-            }
-            rest = &rest[behind..];
+        while let Some(behind) = Reader::behind_short(rest) {
+            rest = behind;
         }
         rest
+    }
+
+    // What is within a short constructed element, if the bytes are one.
+    fn within_short(bytes: &[u8]) -> Option<&[u8]>
+        ensures { (depth : ℕ) → 0 < depth → IfSome result (λ contents. Decides depth bytes.now (depth - 1) contents.now) }
+    {
+        match bytes {
+            [
+                (Reader::CONSTRUCTED..),
+                size @ ..Length::SHORT,
+                contents @ ..,
+            ] if usize::from(*size) == contents.len() => Some(contents),
+            _ => None,
+        }
+    }
+
+    // What is behind a short primitive, if one stands at the front.
+    fn behind_short(bytes: &[u8]) -> Option<&[u8]>
+        ensures { (depth : ℕ) → IfSome result (λ behind. (length behind.now < length bytes.now) × Decides depth bytes.now depth behind.now) }
+    {
+        match bytes {
+            [..Reader::CONSTRUCTED, size @ ..Length::SHORT, behind @ ..]
+                if usize::from(*size) <= behind.len() => Some(&behind[usize::from(*size)..]),
+            _ => None,
+        }
     }
 }

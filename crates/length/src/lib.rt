@@ -26,16 +26,19 @@ impl Length {
     pub fn read(bytes: &[u8]) -> Option<Length>
         ensures { result ≡ front_length bytes.now }
     {
-        match bytes {
-            [first, ..] if *first < Length::SHORT => Some(Length {
-                value: usize::from(*first),
+        let [first, behind @ ..] = bytes else {
+            return None;
+        };
+        match (*first, behind) {
+            (short @ ..Length::SHORT, _) => Some(Length {
+                value: usize::from(short),
                 size: 1,
             }),
-            [Length::ONE_BYTE, value, ..] if *value >= Length::SHORT => Some(Length {
+            (Length::ONE_BYTE, [value, ..]) if *value >= Length::SHORT => Some(Length {
                 value: usize::from(*value),
                 size: 2,
             }),
-            [Length::TWO_BYTES, high, low, ..] if *high != 0 => Some(Length {
+            (Length::TWO_BYTES, [high, low, ..]) if *high != 0 => Some(Length {
                 value: usize::from(u16::from_be_bytes([*high, *low])),
                 size: 3,
             }),

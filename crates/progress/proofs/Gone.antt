@@ -1,8 +1,8 @@
 -- Readers that have gone over bytes, byte by byte or over many at once. Assumes nothing.
-use Rattle.std.proofs.Common.{◌≡◌, ℕ, ◌+◌, ◌-◌, ◌<◌, ◌≤◌, min, true, eqb, List, [], ◌∷◌, ◌++◌, length, get_or, take, drop, Some, None, sym, refl, ap, ◌∙◌, subst, append-nil, arith, length-drop, length-take}
-use Rattle.std.proofs.lemmas.List.{nil_from_length, take_more, take_all, take-append-drop, drop-take, take-take}
+use Rattle.std.proofs.Common.{◌≡◌, ℕ, ◌+◌, ◌-◌, ◌<◌, ◌≤◌, min, true, eqb, List, [], ◌∷◌, ◌++◌, length, get_or, take, drop, Some, sym, refl, ap, ◌∙◌, subst, append_assoc, append-nil, arith, length-append, length-take, take_at}
+use Rattle.std.proofs.lemmas.List.{nil_from_length, drop_more, take-append-drop}
 use Rattle.std.proofs.lemmas.Bool.{cond_both, cond-false, ne_eqb}
-use Rattle.format.specs.Elements.{Row, all_bytes, Reads, Readable}
+use Rattle.format.specs.Elements.{all_bytes}
 use Rattle.format.specs.Viable.{Viable}
 use Rattle.format.proofs.Bytes.{all_bytes_append, all_bytes_one, all_bytes_take, all_bytes_drop}
 use Rattle.format.proofs.Viability.{viable_none}
@@ -85,63 +85,55 @@ skipped_some p q most n over at some e is =
     same xs l =
         is ∙ ap (λ k. settled (at_place (state p) (Contents (n - k)))) (sym l) ∙ sym (run_contents xs (state p) n (omega arith) (omega arith)) ∙ ap (λ k. run (at_place (state p) k) xs) (sym at)
 
--- a reader in the midst of bytes, which are viable so far
-pub record Reading (bytes : List ℕ) (p : Progress) (at : ℕ) : Type 0 where
-  pub within : at ≤ length bytes
-  pub gone : Gone p (take at bytes)
-  pub viable : Viable deepest longest (take at bytes)
+-- a reader in the midst of bytes, of which so many are left, and which are viable so far
+pub record Reading (bytes : List ℕ) (p : Progress) (rest : List ℕ) : Type 0 where
+  pub before : List ℕ
+  pub is : before ++ rest ≡ bytes
+  pub gone : Gone p before
+  pub viable : Viable deepest longest before
+  pub each : all_bytes rest ≡ true
 
-pub reading_start : (b : List ℕ) (p : Progress) → Gone p [] → Reading b p 0
-reading_start b p h = record { within = omega arith; gone = h; viable = viable_none deepest longest }
+pub reading_start : (b : List ℕ) (p : Progress) → all_bytes b ≡ true → Gone p [] → Reading b p b
+reading_start b p each h = record { before = []; is = refl; gone = h; viable = viable_none deepest longest; each = each }
 
 alive_says : (b : List ℕ) (st : Status) → Says b st → (st ≡ Dead → ⊥) → Viable deepest longest b
 alive_says b Ends h n = viable_end b h
 alive_says b Within h n = h.0
 alive_says b Dead h n = absurd (n refl)
 
-take_further : (b : List ℕ) (at k : ℕ) → take (at + k) b ≡ take at b ++ take k (drop at b)
-take_further b at k = sym (take-append-drop at (take (at + k) b)) ∙ ap (λ l. l ++ drop at (take (at + k) b)) (take-take at (at + k) b (omega arith)) ∙ ap (λ l. take at b ++ l) (drop-take at k b)
+module _ (b : List ℕ) (p q : Progress) (rest : List ℕ) (h : Reading b p rest) (some : 0 < length rest) (st : Status)
+    (goes : (c : List ℕ) → Gone p c → Gone q (c ++ (get_or rest 0 0 ∷ []))) (says : (c : List ℕ) → Gone p c → Says (c ++ (get_or rest 0 0 ∷ [])) st) where
+  abbrev Further : List ℕ
+  Further = h.before ++ (get_or rest 0 0 ∷ [])
 
-module _ (b : List ℕ) (p q : Progress) (at : ℕ) (h : Reading b p at) (some : at < length b) (st : Status)
-    (goes : (c : List ℕ) → Gone p c → Gone q (c ++ (get_or b at 0 ∷ []))) (says : (c : List ℕ) → Gone p c → Says (c ++ (get_or b at 0 ∷ [])) st) where
-  says_here : Says (take (at + 1) b) st
-  says_here = subst (λ l. Says l st) (sym (take_more b at 0 some)) (says (take at b) h.gone)
+  further : Further ++ drop 1 rest ≡ b
+  further = append_assoc h.before (get_or rest 0 0 ∷ []) (drop 1 rest) ∙ ap (λ l. h.before ++ l) (sym (drop_more rest 0 0 some)) ∙ h.is
 
   -- the place is where no bytes can help
-  pub reading_dead : st ≡ Dead → Placed b (Some at)
-  reading_dead dead = record { within = h.within; before = h.viable; here = λ l. subst (Says (take (at + 1) b)) dead says_here; end = λ e. absurd (omega arith) }
-
-  gone_here : Gone q (take (at + 1) b)
-  gone_here = subst (Gone q) (sym (take_more b at 0 some)) (goes (take at b) h.gone)
-
-  -- one byte further, and then over contents
-  pub reading_on : all_bytes b ≡ true → (st ≡ Dead → ⊥) → (n : Progress) (over : ℕ) → Skipped q (length b - (at + 1)) over n → Reading b n (at + 1 + over)
-  reading_on bytes alive n over s =
-      let xs = take over (drop (at + 1) b) in
-      let size : length xs ≡ over = omega (arith, length-take over (drop (at + 1) b), length-drop (at + 1) b, s.far) in
-      let each : all_bytes xs ≡ true = all_bytes_take over (drop (at + 1) b) (all_bytes_drop (at + 1) b bytes) in
-      let e = sym (take_further b (at + 1) over) in
+  pub reading_dead : st ≡ Dead → Placed b (Some (length b - length rest))
+  reading_dead dead =
+      let size : length h.before ≡ length b - length rest = omega (arith, ap length h.is, length-append h.before rest) in
+      let before : take (length b - length rest) b ≡ h.before = ap (take (length b - length rest)) (sym h.is) ∙ take_at h.before rest (length b - length rest) size in
+      let here : take (length b - length rest + 1) b ≡ Further =
+      ap (take (length b - length rest + 1)) (sym further) ∙ take_at Further (drop 1 rest) (length b - length rest + 1) (omega (arith, size, length-append h.before (get_or rest 0 0 ∷ []))) in
       record {
-        within = omega (arith, s.far);
-        gone = subst (Gone n) e (s.gone (take (at + 1) b) xs gone_here size each);
-        viable = subst (Viable deepest longest) e (s.viable (take (at + 1) b) xs gone_here size each (alive_says (take (at + 1) b) st says_here alive));
+        within = omega arith;
+        before = subst (Viable deepest longest) (sym before) h.viable;
+        here = λ l v. subst (Says Further) dead (says h.before h.gone) (subst (Viable deepest longest) here v);
+        end = λ e. absurd (omega (arith, ap length h.is, length-append h.before rest));
       }
 
--- at the end of the bytes
-pub reading_ends : (b : List ℕ) (p : Progress) (at : ℕ) → Reading b p at → length b ≤ at → ((c : List ℕ) → Gone p c → Says c Ends) → Placed b None
-reading_ends b p at h l says = subst (λ l. Readable deepest longest l true) (take_all at b l) (says (take at b) h.gone)
-
-pub reading_short : (b : List ℕ) (p : Progress) (at : ℕ) (st : Status) → Reading b p at → length b ≤ at → (st ≡ Ends → ⊥) → ((c : List ℕ) → Gone p c → Says c st) → Placed b (Some (length b))
-reading_short b p at st h l n says =
-    let e : take at b ≡ b = take_all at b l in
-    record {
-      within = omega arith;
-      before = subst (Viable deepest longest) (e ∙ sym (take_all (length b) b (omega arith))) h.viable;
-      here = λ k. absurd (omega arith);
-      end = λ k. unread st n (subst (λ l. Says l st) e (says (take at b) h.gone)) (subst (Viable deepest longest) e h.viable);
-    }
-  where
-    unread : (st : Status) → (st ≡ Ends → ⊥) → Says b st → Viable deepest longest b → (row : Row) → Reads deepest longest b row → ⊥
-    unread Ends n s v row r = n refl
-    unread Within n s v row r = s.1 row r
-    unread Dead n s v row r = s v
+  -- one byte further, and then over contents
+  pub reading_on : (st ≡ Dead → ⊥) → (n : Progress) (most over : ℕ) → most ≡ length (drop 1 rest) → Skipped q most over n → (part : List ℕ) → part ≡ drop over (drop 1 rest) → Reading b n part
+  reading_on alive n most over fits s part e =
+      let xs = take over (drop 1 rest) in
+      let size : length xs ≡ over = omega (arith, length-take over (drop 1 rest), s.far) in
+      let behind : all_bytes (drop 1 rest) ≡ true = all_bytes_drop 1 rest h.each in
+      let each : all_bytes xs ≡ true = all_bytes_take over (drop 1 rest) behind in
+      record {
+        before = Further ++ xs;
+        is = append_assoc Further xs part ∙ ap (λ l. Further ++ (xs ++ l)) e ∙ ap (λ l. Further ++ l) (take-append-drop over (drop 1 rest)) ∙ further;
+        gone = s.gone Further xs (goes h.before h.gone) size each;
+        viable = s.viable Further xs (goes h.before h.gone) size each (alive_says Further st (says h.before h.gone) alive);
+        each = subst (λ l. all_bytes l ≡ true) (sym e) (all_bytes_drop over (drop 1 rest) behind);
+      }

@@ -2,6 +2,9 @@
 ghost use Rattle.std.specs.Prelude.{◌≡◌};
 ghost use Rattle.progress.specs.Machine.{after_tag, after_first, after_high, next_place};
 
+use crate::state::Progress;
+use length::Length;
+
 // Where a reader is within an element.
 #[derive(Clone, Copy)]
 pub enum Place {
@@ -24,17 +27,6 @@ pub enum Place {
 }
 
 impl Place {
-    // Tags from this one on are of constructed elements.
-    pub const CONSTRUCTED: u8 = 128;
-    // Below this a byte is a length by itself.
-    const SHORT: u8 = 128;
-    // Behind this byte stands a length of one byte.
-    const ONE_BYTE: u8 = 129;
-    // Behind this byte stands a length of two bytes, the higher first.
-    const TWO_BYTES: u8 = 130;
-    // Values of a byte.
-    const BYTE_END: u16 = 256;
-
     // How many bytes a header takes by the form of its length.
     const SHORT_HEADER: u8 = 2;
 
@@ -56,32 +48,21 @@ impl Place {
         match self {
             Place::Tag => Place::after_tag(room, levels, byte),
             Place::Length { tag } => Place::after_first(room, tag, byte),
-            Place::OneByte { tag } => {
-                if byte < Place::SHORT {
-                    Place::Nowhere
-                } else {
-                    Place::Header {
-                        tag,
-                        size: Place::ONE_BYTE_HEADER,
-                        len: byte as u16,
-                    }
-                }
-            }
+            Place::OneByte { tag } if byte >= Length::SHORT => Place::Header {
+                tag,
+                size: Place::ONE_BYTE_HEADER,
+                len: u16::from(byte),
+            },
             Place::TwoBytes { tag } => Place::after_high(room, tag, byte),
             Place::LowByte { tag, high } => Place::Header {
                 tag,
                 size: Place::TWO_BYTES_HEADER,
-                len: Place::BYTE_END * high as u16 + byte as u16,
+                len: u16::from_be_bytes([high, byte]),
             },
             Place::Contents { left } => Place::Contents {
                 left: left.saturating_sub(1),
             },
-            Place::Header {
-                tag: _,
-                size: _,
-                len: _,
-            } => Place::Nowhere,
-            Place::Nowhere => Place::Nowhere,
+            Place::OneByte { .. } | Place::Header { .. } | Place::Nowhere => Place::Nowhere,
         }
     }
 
@@ -89,10 +70,7 @@ impl Place {
     fn after_tag(room: usize, levels: usize, tag: u8) -> Place
         ensures { result ≡ after_tag room levels tag }
     {
-        if tag < Place::CONSTRUCTED {
-            return Place::Length { tag };
-        }
-        if levels == 0 || room == Place::NO_CONSTRUCTED {
+        if tag >= Progress::CONSTRUCTED && (levels == 0 || room == Place::NO_CONSTRUCTED) {
             return Place::Nowhere;
         }
         Place::Length { tag }
@@ -102,27 +80,24 @@ impl Place {
     fn after_first(room: usize, tag: u8, byte: u8) -> Place
         ensures { result ≡ after_first room tag byte }
     {
-        if byte < Place::SHORT {
-            return Place::Header {
+        match byte {
+            ..Length::SHORT => Place::Header {
                 tag,
                 size: Place::SHORT_HEADER,
-                len: byte as u16,
-            };
+                len: u16::from(byte),
+            },
+            Length::ONE_BYTE if room >= Place::ONE_BYTE_LEAST => Place::OneByte { tag },
+            Length::TWO_BYTES if room >= Place::TWO_BYTES_LEAST => Place::TwoBytes { tag },
+            _ => Place::Nowhere,
         }
-        if byte == Place::ONE_BYTE && room >= Place::ONE_BYTE_LEAST {
-            return Place::OneByte { tag };
-        }
-        if byte == Place::TWO_BYTES && room >= Place::TWO_BYTES_LEAST {
-            return Place::TwoBytes { tag };
-        }
-        Place::Nowhere
     }
 
     // Behind the higher of a length's two bytes.
     fn after_high(room: usize, tag: u8, high: u8) -> Place
         ensures { result ≡ after_high room tag high }
     {
-        let least = Place::TWO_BYTES_HEADER as usize + Place::BYTE_END as usize * high as usize;
+        let least = usize::from(Place::TWO_BYTES_HEADER)
+            + usize::from(u16::from_be_bytes([high, 0]));
         if high == 0 || room < least {
             return Place::Nowhere;
         }

@@ -11,6 +11,8 @@ use crate::state::{Progress, ROWS, Status};
 impl Progress {
     // Constructed elements stand within one another at most so deep.
     pub const MAX_DEPTH: usize = 8;
+    // Tags from this one on are of constructed elements.
+    pub const CONSTRUCTED: u8 = 128;
     // The outermost row has no end: more than any element takes.
     const ENDLESS: usize = 131_072;
 
@@ -49,11 +51,11 @@ impl Progress {
         };
         self.place = Place::Nowhere;
         let room = self.rooms[self.levels];
-        let taken = size as usize + len as usize;
+        let taken = usize::from(size) + usize::from(len);
         if room < taken || room == taken + 1 {
             return;
         }
-        if tag < Place::CONSTRUCTED {
+        if tag < Progress::CONSTRUCTED {
             self.place = Place::Contents { left: len };
             self.spend(taken);
             return;
@@ -64,7 +66,7 @@ impl Progress {
         self.place = Place::Tag;
         self.spend(taken);
         self.levels -= 1;
-        self.rooms[self.levels] = len as usize;
+        self.rooms[self.levels] = usize::from(len);
     }
 
     // Gives so many bytes of the innermost row to an element.
@@ -80,16 +82,10 @@ impl Progress {
     fn settle(&mut self)
         ensures { state self.new ≡ settled (state self.old) }
     {
-        if let Place::Contents { left } = self.place {
-            if left > 0 {
-                return;
-            }
+        if let Place::Tag | Place::Contents { left: 0 } = self.place {
             self.place = Place::Tag;
+            self.levels = self.innermost();
         }
-        let Place::Tag = self.place else {
-            return;
-        };
-        self.levels = self.innermost();
     }
 
     // The levels that may open in the innermost row that still needs bytes.
@@ -97,11 +93,8 @@ impl Progress {
         ensures bounded { result ≤ deepest }
         ensures is { result ≡ self.now.levels + full (drop self.now.levels self.now.rooms) }
     {
-        let mut levels = self.levels;
-        while levels < Progress::MAX_DEPTH && self.rooms[levels] == 0 {
-            levels += 1;
-        }
-        levels
+        let inner = &self.rooms[self.levels..Progress::MAX_DEPTH];
+        self.levels + inner.iter().take_while(|room| **room == 0).count()
     }
 
     // What is known of the bytes so far.
@@ -111,13 +104,7 @@ impl Progress {
     {
         match self.place {
             Place::Nowhere => Status::Dead,
-            Place::Tag => {
-                if self.levels == Progress::MAX_DEPTH {
-                    Status::Ends
-                } else {
-                    Status::Within
-                }
-            }
+            Place::Tag if self.levels == Progress::MAX_DEPTH => Status::Ends,
             _ => Status::Within,
         }
     }
@@ -126,20 +113,19 @@ impl Progress {
     pub fn skip(&mut self, most: usize) -> usize
         ensures { Skipped self.old most result self.new }
     {
-        let Place::Contents { left } = self.place else {
+        let place = self.place;
+        let Place::Contents { left } = place else {
             return 0;
         };
-        let over = if most < left as usize {
-            most as u16
-        } else {
-            left
-        };
+        let over = most.min(usize::from(left));
         if over == 0 {
             return 0;
         }
-        self.place = Place::Contents { left: left - over };
+        self.place = Place::Contents {
+            left: left - over as u16,
+        };
         self.settle();
-        over as usize
+        over
     }
 }
 
@@ -148,13 +134,13 @@ pub fn ill_place(bytes: &[u8]) -> Option<usize>
     ensures { Placed bytes.now result }
 {
     let mut reader = Progress::new();
-    let mut at = 0;
-    while at < bytes.len() {
-        if let Status::Dead = reader.step(bytes[at]) {
-            return Some(at);
+    let mut rest = bytes;
+    while let [byte, behind @ ..] = rest {
+        if let Status::Dead = reader.step(*byte) {
+            return Some(bytes.len() - rest.len());
         }
-        at += 1;
-        at += reader.skip(bytes.len() - at);
+        let over = reader.skip(behind.len());
+        rest = &behind[over..];
     }
     match reader.status() {
         Status::Ends => None,

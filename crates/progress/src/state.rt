@@ -5,9 +5,10 @@ ghost use Rattle.progress.specs.Limits.{deepest};
 use crate::place::Place;
 
 // The rows that can be open at once: the outermost, and one for each level.
-pub const ROWS: usize = 9;
+pub const ROWS: usize = Progress::MAX_DEPTH + 1;
 
 // Where a reader is, how many levels of constructed elements may open there, and how many bytes each open row still needs, the row with so many levels at that number.
+// An array and a number in place of a Vec: reading takes no memory.
 #[derive(Clone, Copy)]
 pub struct Progress {
     pub(crate) place: Place,

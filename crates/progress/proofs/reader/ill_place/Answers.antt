@@ -1,22 +1,18 @@
-use Rattle.std.proofs.Common.{arith}
+use Rattle.std.proofs.Common.{◌≡◌, ◌-◌, length, take, drop, ap, ◌∙◌, arith}
+use Rattle.std.proofs.lemmas.List.{take_rest}
 use Rattle.format.proofs.Bytes.{all_bytes_from}
-use Rattle.progress.proofs.Gone.{reading_start, reading_dead, reading_on, reading_ends, reading_short}
+use Rattle.progress.proofs.Gone.{reading_start, reading_dead, reading_on}
 use Rattle.progress.proofs.reader.ill_place.Goals as goal
 
-pub loop-at-init : goal.loop-at-init
-loop-at-init c = reading_start c.args.bytes.now c.new-reader.result c.new-reader.ensures.gone
+pub loop-rest-init : goal.loop-rest-init
+loop-rest-init c = reading_start c.args.bytes.now c.new-reader.result (all_bytes_from c.args.bytes.now (λ i. (c.type_inv.bytes i).fits)) c.new-reader.ensures.gone
 
 pub returns-in-Dead : goal.returns-in-Dead
-returns-in-Dead c =
-    reading_dead c.args.bytes.now c.loop-at.reader c.step.new.self c.loop-at.at c.loop-at.invariant (omega arith) c.step.result c.step.ensures.gone c.step.ensures.says c.in-Dead.is
+returns-in-Dead c = reading_dead c.args.bytes.now c.loop-rest.reader c.step.new.self c.loop-rest.rest.now c.loop-rest.invariant (omega arith) c.step.result c.step.ensures.gone c.step.ensures.says c.in-Dead.is
 
-pub loop-at-preserved : goal.loop-at-preserved
-loop-at-preserved c =
-    reading_on c.args.bytes.now c.loop-at.reader c.step.new.self c.loop-at.at c.loop-at.invariant (omega arith) c.step.result c.step.ensures.gone c.step.ensures.says
-    (all_bytes_from c.args.bytes.now (λ i. (c.type_inv.bytes i).fits)) c.in_default.not-Dead c.skip-at.new.self c.skip-at.result c.skip-at.ensures
-
-pub returns-in-Ends : goal.returns-in-Ends
-returns-in-Ends c = reading_ends c.args.bytes.now c.loop-at.reader c.loop-at.at c.loop-at.invariant (omega arith) c.in-Ends.ensures.says
-
-pub returns-in_default-status : goal.returns-in_default-status
-returns-in_default-status c = reading_short c.args.bytes.now c.loop-at.reader c.loop-at.at c.status.result c.loop-at.invariant (omega arith) c.in_default-status.not-Ends c.status.ensures.says
+pub loop-rest-preserved : goal.loop-rest-preserved
+loop-rest-preserved c =
+    let rest = c.loop-rest.rest.now in
+    let behind : take (length rest - 1) (drop 1 rest) ≡ drop 1 rest = take_rest rest 1 in
+    reading_on c.args.bytes.now c.loop-rest.reader c.step.new.self rest c.loop-rest.invariant (omega arith) c.step.result c.step.ensures.gone c.step.ensures.says
+    c.in_default-step.not-Dead c.skip-over.new.self _ c.skip-over.result (ap length behind) c.skip-over.ensures _ (take_rest (take (length rest - 1) (drop 1 rest)) c.skip-over.result ∙ ap (drop c.skip-over.result) behind)

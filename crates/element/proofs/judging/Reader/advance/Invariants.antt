@@ -1,10 +1,8 @@
-use Rattle.std.proofs.Common.{◌≡◌, ◌≤◌, true, length}
-use Rattle.format.specs.Elements.{all_bytes}
 use Rattle.element.specs.Openings.{Decides}
 use Rattle.element.proofs.judging.Reader.advance.Given as goal
 
-abbrev pub invariant-loop-rest : goal.invariant-loop-rest
-invariant-loop-rest l = (length l.rest ≤ length l.bytes) × (all_bytes l.bytes ≡ true → Decides l.depth l.bytes l.left l.rest)
+abbrev pub invariant-loop-contents : goal.invariant-loop-contents
+invariant-loop-contents l = Decides l.depth l.fn.bytes l.rest.depth l.rest.bytes.now
 
-abbrev pub decreases-loop-rest : goal.decreases-loop-rest
-decreases-loop-rest l = length l.rest
+abbrev pub decreases-loop-contents : goal.decreases-loop-contents
+decreases-loop-contents l = l.rest.depth

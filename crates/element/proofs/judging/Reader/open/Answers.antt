@@ -3,8 +3,8 @@ use Rattle.element.specs.Openings.{Opened}
 use Rattle.element.proofs.Openings.{opens_from, shut_few, shut_length, shut_long, length_behind}
 use Rattle.element.proofs.judging.Reader.open.Goals as goal
 
-pub returns-then-bytes-lt1 : goal.returns-then-bytes-lt1
-returns-then-bytes-lt1 c = shut_few c.args.bytes.now (omega arith)
+pub returns-in_default : goal.returns-in_default
+returns-in_default c = shut_few c.args.bytes.now (omega arith)
 
 pub returns-in_err-value : goal.returns-in_err-value
 returns-in_err-value c =

@@ -1,18 +1,13 @@
-use Rattle.std.proofs.Common.{◌≡◌, min, ap, arith}
+use Rattle.std.proofs.Common.{ap, arith}
 use Rattle.progress.specs.Progressed.{contents_left}
 use Rattle.progress.proofs.Gone.{skipped_none, skipped_some, no_contents}
 use Rattle.progress.proofs.state.Progress.skip.Goals as goal
-use Rattle.progress.proofs.state.Progress.skip.Goals.{then-most-left, else-most-left}
 
 pub returns-in_default : goal.returns-in_default
 returns-in_default c = skipped_none c.args.self.now c.args.most (omega (arith, no_contents c.args.self.now.place c.in_default.not-Contents))
 
 pub returns-then-over-eq0 : goal.returns-then-over-eq0
-returns-then-over-eq0 c =
-    let over : c.if-most-left.over ≡ min c.args.most c.in-Contents.left = elim c.if-most-left.branch [ then-most-left w ↦ omega (arith, w.over-is) | else-most-left w ↦ omega (arith, w.over-is) ] in
-    skipped_none c.args.self.now c.args.most (omega (arith, ap contents_left c.in-Contents.is))
+returns-then-over-eq0 c = skipped_none c.args.self.now c.args.most (omega (arith, ap contents_left c.in-Contents.is))
 
 pub returns : goal.returns
-returns c =
-    let over : c.if-most-left.over ≡ min c.args.most c.in-Contents.left = elim c.if-most-left.branch [ then-most-left w ↦ omega (arith, w.over-is) | else-most-left w ↦ omega (arith, w.over-is) ] in
-    skipped_some c.args.self.now c.settle.new.self c.args.most c.in-Contents.left c.if-most-left.over c.in-Contents.is (omega arith) over c.settle.ensures
+returns c = skipped_some c.args.self.now c.settle.new.self c.args.most c.in-Contents.left c.min-over.result c.in-Contents.is (omega arith) (omega arith) c.settle.ensures

@@ -4,22 +4,16 @@ use Rattle.progress.specs.declared.state.Status.TheVariants.{Ends, Within, Dead}
 use Rattle.progress.proofs.Gone.{gone_says}
 use Rattle.progress.proofs.state.Progress.status.Goals as goal
 
-pub returns-in-Nowhere : goal.returns-in-Nowhere
-returns-in-Nowhere c =
-    let e : Dead ≡ status_at c.args.self.now.levels c.args.self.now.place = search rules in
-    record { is = e; says = λ b. gone_says c.args.self.now b Dead e }
+pub returns-in-Nowhere-clause-says : goal.returns-in-Nowhere-clause-says
+returns-in-Nowhere-clause-says c = λ b. gone_says c.args.self.now b Dead (search rules)
 
-pub returns-then-self-eq-MAX_DEPTH : goal.returns-then-self-eq-MAX_DEPTH
-returns-then-self-eq-MAX_DEPTH c =
-    let e : Ends ≡ status_at c.args.self.now.levels c.args.self.now.place = search rules in
-    record { is = e; says = λ b. gone_says c.args.self.now b Ends e }
+pub returns-in-Tag-clause-says : goal.returns-in-Tag-clause-says
+returns-in-Tag-clause-says c = λ b. gone_says c.args.self.now b Ends (search rules)
 
-pub returns-else-self-eq-MAX_DEPTH : goal.returns-else-self-eq-MAX_DEPTH
-returns-else-self-eq-MAX_DEPTH c =
-    let e : Within ≡ status_at c.args.self.now.levels c.args.self.now.place = search rules in
-    record { is = e; says = λ b. gone_says c.args.self.now b Within e }
+pub returns-in_default-clause-says : goal.returns-in_default-clause-says
+returns-in_default-clause-says c = λ b. gone_says c.args.self.now b Within (search rules)
 
-pub returns-in_default : goal.returns-in_default
-returns-in_default c =
+pub returns-in_default-2 : goal.returns-in_default-2
+returns-in_default-2 c =
     let e : Within ≡ status_at c.args.self.now.levels c.args.self.now.place = search rules in
     record { is = e; says = λ b. gone_says c.args.self.now b Within e }
