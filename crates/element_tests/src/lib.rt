@@ -121,23 +121,12 @@ mod tests {
 
     #[test]
     fn walked(rt: HostRuntime) {
-        let mut tags = 0u64;
-        let mut bytes = 0;
-        for element in Cursor::new(&ROW) {
-            tags = tags.wrapping_mul(1000).wrapping_add(u64::from(element.tag));
-            bytes = element.at;
-        }
-        assert_eq!(rt; tags, 128_005);
-        assert_eq!(rt; bytes, 7);
-    }
-
-    #[test]
-    fn rows(rt: HostRuntime) {
-        for element in Cursor::new(&ROW) {
-            let within = element.row().map(|row| row.at);
-            let expected = if element.at == 0 { Some(2) } else { None };
-            assert_eq!(rt; within, expected);
-        }
+        let elements = Cursor::new(&ROW).map(|element| (
+            element.tag,
+            element.at,
+            element.row().map(|row| row.at),
+        ));
+        assert!(rt; elements.eq([(128, 0, Some(2)), (5, 7, None)]));
     }
 
     #[test]

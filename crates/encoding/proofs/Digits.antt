@@ -1,5 +1,5 @@
 -- Numbers and their bytes: each number below 2^32 has bytes of its own. Assumes nothing.
-use Rattle.std.proofs.Common.{◌≡◌, ℕ, ◌+◌, ◌-◌, ◌*◌, ◌/◌, ◌%◌, ◌^◌, ◌<◌, ◌≤◌, true, ltb, List, [], ◌∷◌, length, get_or, take, drop, Some, fold, sym, refl, ap, ◌∙◌, subst, ⊎_elim, w32, arith}
+use Rattle.std.proofs.Common.{◌≡◌, ℕ, ◌+◌, ◌-◌, ◌*◌, ◌/◌, ◌%◌, ◌^◌, ◌<◌, ◌≤◌, true, ltb, List, [], ◌∷◌, length, get_or, take, drop, Some, fold, sym, refl, ap, ◌∙◌, ⊎_elim, w32, arith}
 use Rattle.std.specs.Int.{from_be_bytes}
 use Rattle.std.proofs.lemmas.List.{take_rest}
 use Rattle.std.proofs.lemmas.Bool.{lt-ltb, le-ltb, cases_lt, and_from}
@@ -43,10 +43,6 @@ shaped n h = by_size (λ k b. Shaped b) n h
     (λ i j. record { some = omega arith; few = omega arith; least = λ l. omega arith })
     (λ i j. record { some = omega arith; few = omega arith; least = λ l. omega arith })
     (λ i. record { some = omega arith; few = omega arith; least = λ l. omega arith })
-
--- so bytes of another shape are no number's
-pub shaped_as : (b : List ℕ) (n : ℕ) → n < 2 ^ 32 → number_bytes n ≡ b → Shaped b
-shaped_as b n h e = subst Shaped e (shaped n h)
 
 pub few_bytes : (n : ℕ) → n < 2 ^ 32 → length (number_bytes n) ≤ 4
 few_bytes n h = (shaped n h).few

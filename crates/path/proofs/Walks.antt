@@ -98,12 +98,6 @@ pub record Led (bytes path : List ℕ) (i : ℕ) (c : Cursor) : Type 0 where
   pub near : c.at + length (ahead c) ≤ length bytes
   pub on : (row : Row) → Reads deepest longest bytes row → (d : ℕ) × (left : Row) × Reads d longest (ahead c) left × (at_path row path ≡ at_path left (drop i path)) × (place row path ≡ c.at + place left (drop i path))
 
-pub led_start : (bytes path : List ℕ) (c : Cursor) → ahead c ≡ bytes → c.at ≡ 0 → Led bytes path 0 c
-led_start bytes path c e z = record {
-  near = omega (arith, ap length e);
-  on = λ row h. (deepest, row, subst (λ b. Reads deepest longest b row) (sym e) h, refl, omega arith);
-}
-
 module _ (bytes path : List ℕ) (i : ℕ) (c : Cursor) (h : Led bytes path i c) (n : ℕ) (e : drop i path ≡ n ∷ drop (i + 1) path) where
   -- where the number leads to nothing, or to an element with nothing within, the path leads to nothing
   pub led_nowhere : 0 < length (drop (i + 1) path) → ((d : ℕ) (left : Row) → Reads d longest (ahead c) left → inside (nth left n) ≡ empty) → Nowhere bytes path
