@@ -61,16 +61,13 @@ fn hex_byte(high: u8, low: u8) -> Option<u8>
 fn push_bytes(out: &mut Vec<u8>, word: &[u8]) -> Result<(), LineError>
     ensures { Reads (λ _. out.new.items) result (option_map (λ bs. out.old.items ++ bs) (word_bytes word.now)) }
 {
-    let mut rest = word;
-    while let [high, low, others @ ..] = rest {
+    for pair in word.chunks(2) {
+        let [high, low] = pair else {
+            return Err(LineError::Unreadable);
+        };
         out.push(hex_byte(*high, *low).ok_or(LineError::Unreadable)?)?;
-        rest = others;
     }
-    if rest.is_empty() {
-        Ok(())
-    } else {
-        Err(LineError::Unreadable)
-    }
+    Ok(())
 }
 
 // The bytes that all words left write.
