@@ -122,7 +122,7 @@ fn append_row<F: Figure>(out: &mut Vec<u8>, row: &[F]) -> Result<(), AllocError>
     }
 }
 
-// Two blanks for each level.
+// Two blanks for each level: a loop, since a `usize` may not hold twice the level.
 fn push_indent(out: &mut Vec<u8>, level: usize) -> Result<(), AllocError>
     ensures { Appends result out.old.items (indent level) out.new.items }
 {
