@@ -21,7 +21,7 @@ pub enum Command {
     Chain { first: u64, day: u64 },
 }
 
-// The kinds of lines, by their first word.
+// The kinds of lines, by their first word: in one `match` with what is read behind it the last arm is not proved.
 #[derive(Clone, Copy)]
 enum Key {
     Comment,
