@@ -11,6 +11,7 @@ use std::alloc::AllocError;
 
 // A number of a row: a `u16` stands in base ten, a `u8` in two digits of base sixteen.
 trait Figure: Copy {
+    // The text of a number.
     ghost text: { Self → List ℕ };
 
     // Puts its text behind the others.
