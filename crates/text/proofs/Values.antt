@@ -4,7 +4,7 @@ use Rattle.std.specs.Option.{option_map}
 use Rattle.std.proofs.lemmas.List.{at_drop_more, at_drop_all}
 use Rattle.std.proofs.lemmas.Bool.{le-ltb, lt-ltb, ltb-true, ltb-false}
 use Rattle.text.specs.declared.error.LineError.{LineError}
-use Rattle.text.specs.Reads.{Reads}
+use Rattle.text.specs.Reading.{ReadsAs}
 use Rattle.text.specs.Figures.{both, with_digit, decimal_after, below, number, hex_pair, word_bytes, bytes_of, all_of}
 
 module _ (limit : ℕ) where
@@ -172,6 +172,6 @@ pairs_end xs [] none = onto_end xs
 pairs_end xs (h ∷ w) none = absurd (omega arith)
 
 -- nothing is said where a reading fails
-pub reads_none : {T X : Type 0} (shows : T → X) (r : Result T LineError) (said : Option X) → is_err r ≡ true → said ≡ None → Reads shows r said
+pub reads_none : {T X : Type 0} (shows : T → X) (r : Result T LineError) (said : Option X) → is_err r ≡ true → said ≡ None → ReadsAs shows r said
 reads_none shows (Ok x) said err none = cc
 reads_none shows (Err e) said err none = λ _. none
