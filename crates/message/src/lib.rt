@@ -11,6 +11,7 @@ use std::alloc::AllocError;
 
 // A number of a row: a `u16` stands in base ten, a `u8` in two digits of base sixteen.
 trait Figure: Copy {
+    // The text of a number.
     ghost text: { Self → List ℕ };
 
     // Puts its text behind the others.
@@ -122,7 +123,7 @@ fn append_row<F: Figure>(out: &mut Vec<u8>, row: &[F]) -> Result<(), AllocError>
     }
 }
 
-// Two blanks for each level.
+// Two blanks for each level: a loop, since a `usize` may not hold twice the level.
 fn push_indent(out: &mut Vec<u8>, level: usize) -> Result<(), AllocError>
     ensures { Appends result out.old.items (indent level) out.new.items }
 {

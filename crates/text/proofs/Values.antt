@@ -1,10 +1,10 @@
 -- Numbers and bytes, one word, digit or byte at a time. Assumes nothing.
-use Rattle.std.proofs.Common.{◌≡◌, ℕ, ◌+◌, ◌-◌, ◌*◌, ◌<◌, ◌≤◌, Bool, true, false, cond, ◌&&◌, eqb, ltb, leb, List, [], ◌∷◌, ◌++◌, length, get_or, drop, Some, None, Option, Ok, Err, is_err, Result, sym, refl, ap, ◌∙◌, append_assoc, append-nil, arith}
+use Rattle.std.proofs.Common.{◌≡◌, ℕ, ◌+◌, ◌-◌, ◌*◌, ◌<◌, ◌≤◌, Bool, true, false, cond, ◌&&◌, ltb, leb, List, [], ◌∷◌, ◌++◌, length, get_or, drop, Some, None, Option, Ok, Err, is_err, Result, sym, refl, ap, ◌∙◌, append_assoc, append-nil, arith}
 use Rattle.std.specs.Option.{option_map}
 use Rattle.std.proofs.lemmas.List.{at_drop_more, at_drop_all}
 use Rattle.std.proofs.lemmas.Bool.{le-ltb, lt-ltb, ltb-true, ltb-false}
 use Rattle.text.specs.declared.error.LineError.{LineError}
-use Rattle.text.specs.Reads.{Reads}
+use Rattle.text.specs.Reading.{ReadsAs}
 use Rattle.text.specs.Figures.{both, with_digit, decimal_after, below, number, hex_pair, word_bytes, bytes_of, all_of}
 
 module _ (limit : ℕ) where
@@ -144,26 +144,34 @@ module _ (xs : List ℕ) (ws : List (List ℕ)) where
   unfolding bytes_of
   bytes_end is = ap (λ l. onto xs (bytes_of l)) is ∙ onto_end xs
 
--- the bytes of a word: two digits on, and at the end
-pub pair_more : (xs w ys : List ℕ) (b : ℕ) → 2 ≤ length w → Some b ≡ hex_pair (get_or w 0 0) (get_or w 1 0) → ys ≡ xs ++ b ∷ [] → onto xs (word_bytes w) ≡ onto ys (word_bytes (drop 2 w))
+-- the bytes of a word: a pair of digits on, a pair that writes no byte, one digit alone, and at the end
+pub pair_more : (xs w p rest ys : List ℕ) (b : ℕ) → w ≡ p ++ rest → length p ≡ 2 → Some b ≡ hex_pair (get_or p 0 0) (get_or p 1 0) → ys ≡ xs ++ b ∷ [] → onto xs (word_bytes w) ≡ onto ys (word_bytes rest)
 unfolding word_bytes
-pair_more xs [] ys b le e more = absurd (omega arith)
-pair_more xs (h ∷ []) ys b le e more = absurd (omega arith)
-pair_more xs (h ∷ (l ∷ w)) ys b le e more = ap (λ o. onto xs (both ◌∷◌ o (word_bytes w))) (sym e) ∙ onto_push xs b (word_bytes w) ∙ ap (λ ls. onto ls (word_bytes w)) (sym more)
+pair_more xs w [] rest ys b is two e more = absurd (omega arith)
+pair_more xs w (h ∷ []) rest ys b is two e more = absurd (omega arith)
+pair_more xs w (h ∷ (l ∷ [])) rest ys b is two e more =
+    ap (λ v. onto xs (word_bytes v)) is ∙ ap (λ o. onto xs (both ◌∷◌ o (word_bytes rest))) (sym e) ∙ onto_push xs b (word_bytes rest) ∙ ap (λ ls. onto ls (word_bytes rest)) (sym more)
+pair_more xs w (h ∷ (l ∷ (x ∷ p))) rest ys b is two e more = absurd (omega arith)
 
-pub pair_fail : (xs w : List ℕ) → 2 ≤ length w → None ≡ hex_pair (get_or w 0 0) (get_or w 1 0) → onto xs (word_bytes w) ≡ None
+pub pair_fail : (xs w p rest : List ℕ) → w ≡ p ++ rest → length p ≡ 2 → None ≡ hex_pair (get_or p 0 0) (get_or p 1 0) → onto xs (word_bytes w) ≡ None
 unfolding word_bytes
-pair_fail xs [] le e = absurd (omega arith)
-pair_fail xs (h ∷ []) le e = absurd (omega arith)
-pair_fail xs (h ∷ (l ∷ w)) le e = ap (λ o. onto xs (both ◌∷◌ o (word_bytes w))) (sym e)
+pair_fail xs w [] rest is two e = absurd (omega arith)
+pair_fail xs w (h ∷ []) rest is two e = absurd (omega arith)
+pair_fail xs w (h ∷ (l ∷ [])) rest is two e = ap (λ v. onto xs (word_bytes v)) is ∙ ap (λ o. onto xs (both ◌∷◌ o (word_bytes rest))) (sym e)
+pair_fail xs w (h ∷ (l ∷ (x ∷ p))) rest is two e = absurd (omega arith)
 
-pub pair_end : (xs w : List ℕ) → length w < 2 → onto xs (word_bytes w) ≡ cond (eqb (length w) 0) (Some xs) None
+pub digit_alone : (xs w : List ℕ) → length w ≡ 1 → onto xs (word_bytes w) ≡ None
 unfolding word_bytes
-pair_end xs [] lt = onto_end xs
-pair_end xs (h ∷ []) lt = refl
-pair_end xs (h ∷ (l ∷ w)) lt = absurd (omega arith)
+digit_alone xs [] one = absurd (omega arith)
+digit_alone xs (h ∷ []) one = refl
+digit_alone xs (h ∷ (l ∷ w)) one = absurd (omega arith)
+
+pub pairs_end : (xs w : List ℕ) → length w ≡ 0 → onto xs (word_bytes w) ≡ Some xs
+unfolding word_bytes
+pairs_end xs [] none = onto_end xs
+pairs_end xs (h ∷ w) none = absurd (omega arith)
 
 -- nothing is said where a reading fails
-pub reads_none : {T X : Type 0} (shows : T → X) (r : Result T LineError) (said : Option X) → is_err r ≡ true → said ≡ None → Reads shows r said
+pub reads_none : {T X : Type 0} (shows : T → X) (r : Result T LineError) (said : Option X) → is_err r ≡ true → said ≡ None → ReadsAs shows r said
 reads_none shows (Ok x) said err none = cc
 reads_none shows (Err e) said err none = λ _. none

@@ -1,4 +1,4 @@
 pub mod Figures
 pub mod Meaning
 pub mod Promise
-pub mod Reads
+pub mod Reading

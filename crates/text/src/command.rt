@@ -2,7 +2,7 @@
 ghost use Rattle.std.specs.Prelude.{◌≡◌};
 ghost use Rattle.std.specs.Option.{option_map};
 ghost use Rattle.text.specs.Meaning.{key_of, only_number, day_of, chain_of, piece_of, words_say, meaning, says};
-ghost use Rattle.text.specs.Reads.{Reads};
+ghost use Rattle.text.specs.Reading.{ReadsAs};
 ghost use Rattle.tokens.specs.Pieces.{words as words_of};
 
 use crate::error::LineError;
@@ -21,7 +21,7 @@ pub enum Command {
     Chain { first: u64, day: u64 },
 }
 
-// The kinds of lines, by their first word.
+// The kinds of lines, by their first word: in one `match` with what is read behind it the last arm is not proved.
 #[derive(Clone, Copy)]
 enum Key {
     Comment,
@@ -80,7 +80,7 @@ fn read_chain(mut words: Words<'_>) -> Option<Command>
 
 // What stands behind `piece`.
 fn read_piece(heap: Global, mut words: Words<'_>) -> Result<Command, LineError>
-    ensures { Reads says result (piece_of (words_of words.entry.rest.now)) }
+    ensures { ReadsAs says result (piece_of (words_of words.entry.rest.now)) }
 {
     let word = words.next().ok_or(LineError::Unreadable)?;
     let paper = parse_number(word).ok_or(LineError::Unreadable)?;
@@ -90,7 +90,7 @@ fn read_piece(heap: Global, mut words: Words<'_>) -> Result<Command, LineError>
 
 // The command that the words of a line are.
 fn read_words(heap: Global, mut words: Words<'_>) -> Result<Command, LineError>
-    ensures { Reads says result (words_say (words_of words.entry.rest.now)) }
+    ensures { ReadsAs says result (words_say (words_of words.entry.rest.now)) }
 {
     let Some(word) = words.next() else {
         return Ok(Command::Nothing);
@@ -108,7 +108,7 @@ fn read_words(heap: Global, mut words: Words<'_>) -> Result<Command, LineError>
 
 // The command that a line is.
 pub fn read_line(heap: Global, line: &[u8]) -> Result<Command, LineError>
-    ensures { Reads says result (meaning line.now) }
+    ensures { ReadsAs says result (meaning line.now) }
 {
     read_words(heap, Words::new(line))
 }

@@ -4,7 +4,7 @@ ghost use Rattle.std.specs.Option.{option_map};
 ghost use Rattle.std.specs.Fn.{FnReturnsAt};
 ghost use Rattle.text.specs.Figures.{below, with_digit, number, hex_digit, hex_pair, word_bytes, bytes_of, numbers, all_of};
 ghost use Rattle.text.specs.Meaning.{mark_limit, number_limit};
-ghost use Rattle.text.specs.Reads.{Reads};
+ghost use Rattle.text.specs.Reading.{ReadsAs};
 ghost use Rattle.tokens.specs.Pieces.{words as words_of};
 
 use crate::error::LineError;
@@ -59,23 +59,20 @@ fn hex_byte(high: u8, low: u8) -> Option<u8>
 
 // Puts the bytes that a word writes behind those of `out`.
 fn push_bytes(out: &mut Vec<u8>, word: &[u8]) -> Result<(), LineError>
-    ensures { Reads (λ _. out.new.items) result (option_map (λ bs. out.old.items ++ bs) (word_bytes word.now)) }
+    ensures { ReadsAs (λ _. out.new.items) result (option_map (λ bs. out.old.items ++ bs) (word_bytes word.now)) }
 {
-    let mut rest = word;
-    while let [high, low, others @ ..] = rest {
+    for pair in word.chunks(2) {
+        let [high, low] = pair else {
+            return Err(LineError::Unreadable);
+        };
         out.push(hex_byte(*high, *low).ok_or(LineError::Unreadable)?)?;
-        rest = others;
     }
-    if rest.is_empty() {
-        Ok(())
-    } else {
-        Err(LineError::Unreadable)
-    }
+    Ok(())
 }
 
 // The bytes that all words left write.
 pub(crate) fn read_bytes(heap: Global, words: Words<'_>) -> Result<Vec<u8>, LineError>
-    ensures { Reads vec_items result (bytes_of (words_of words.entry.rest.now)) }
+    ensures { ReadsAs vec_items result (bytes_of (words_of words.entry.rest.now)) }
 {
     let mut out = Vec::new(heap);
     for word in words {
@@ -91,7 +88,7 @@ fn read_all<T: Drop, F: Fn(&[u8]) -> Option<T>>(
     parse: F,
 ) -> Result<Vec<T>, LineError>
     requires { F.IsAlwaysCallable parse }
-    ensures { (p : List ℕ → Option T) → ((w : List ℕ) (r : Option T) → FnReturnsAt F.Fn parse w r → r ≡ p w) → Reads vec_items result (all_of p (words_of words.entry.rest.now)) }
+    ensures { (p : List ℕ → Option T) → ((w : List ℕ) (r : Option T) → FnReturnsAt F.Fn parse w r → r ≡ p w) → ReadsAs vec_items result (all_of p (words_of words.entry.rest.now)) }
 {
     let mut out = Vec::new(heap);
     for word in words {
@@ -102,14 +99,14 @@ fn read_all<T: Drop, F: Fn(&[u8]) -> Option<T>>(
 
 // The marks that all words left write.
 pub(crate) fn read_marks(heap: Global, words: Words<'_>) -> Result<Vec<u8>, LineError>
-    ensures { Reads vec_items result (numbers mark_limit (words_of words.entry.rest.now)) }
+    ensures { ReadsAs vec_items result (numbers mark_limit (words_of words.entry.rest.now)) }
 {
     read_all(heap, words, parse_mark)
 }
 
 // The numbers that all words left write.
 pub(crate) fn read_numbers(heap: Global, words: Words<'_>) -> Result<Vec<u64>, LineError>
-    ensures { Reads vec_items result (numbers number_limit (words_of words.entry.rest.now)) }
+    ensures { ReadsAs vec_items result (numbers number_limit (words_of words.entry.rest.now)) }
 {
     read_all(heap, words, parse_number)
 }

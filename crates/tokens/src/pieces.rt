@@ -55,6 +55,7 @@ impl<'a> Words<'a> {
     }
 }
 
+// Each word in turn; each leaves fewer bytes.
 impl<'a> Iterator for Words<'a> {
     type Item = &'a [u8];
 
@@ -82,6 +83,7 @@ impl<'a> Lines<'a> {
     }
 }
 
+// Each line in turn; each leaves fewer bytes.
 impl<'a> Iterator for Lines<'a> {
     type Item = &'a [u8];
 

@@ -1,25 +1,21 @@
-use Rattle.std.proofs.Common.{cond, Some, None, vec_items, sym, ap, ◌∙◌}
-use Rattle.std.proofs.lemmas.List.{take_rest}
-use Rattle.text.specs.Figures.{word_bytes}
-use Rattle.text.proofs.Values.{onto, pair_more, pair_fail, pair_end, reads_none}
+use Rattle.std.proofs.Common.{vec_items, sym, ◌∙◌, arith}
+use Rattle.std.specs.Slice.Iter.{chunks_rest}
+use Rattle.text.proofs.Values.{pair_more, pair_fail, digit_alone, pairs_end, reads_none}
 use Rattle.text.proofs.figures.push_bytes.Goals as goal
+
+pub returns-in_default : goal.returns-in_default
+returns-in_default c _ =
+    let steps = c.in-Some.ensures.steps in
+    c.loop-pair.invariant.0 ∙ digit_alone (vec_items c.loop-pair.out) (chunks_rest c.loop-pair.pair-iterator) (omega (arith, steps, c.loop-pair.invariant.1, c.in_default.len_below))
 
 pub returns-in_err-ok_or : goal.returns-in_err-ok_or
 returns-in_err-ok_or c =
-    reads_none _ _ _ c.from_residual.ensures.0 (c.loop-rest.invariant ∙ pair_fail (vec_items c.loop-rest.out) c.loop-rest.rest.now c.in-len2-up.len_at_least (sym c.in_err-ok_or.ensures.ok_part ∙ c.hex_byte.ensures))
+    reads_none _ _ _ c.from_residual.ensures.0 (c.loop-pair.invariant.0 ∙ pair_fail (vec_items c.loop-pair.out) (chunks_rest c.loop-pair.pair-iterator) c.in-Some.pair.now _ c.in-Some.ensures.steps.1.0 (omega arith) (sym c.in_err-ok_or.ensures.ok_part ∙ c.hex_byte.ensures))
 
-pub loop-rest-preserved : goal.loop-rest-preserved
-loop-rest-preserved c =
-    let rest = c.loop-rest.rest.now in
-    let grown = vec_items c.push.new.self in
-    c.loop-rest.invariant
-    ∙ pair_more (vec_items c.loop-rest.out) rest grown c.in_ok-ok_or.field-0 c.in-len2-up.len_at_least (sym c.in_ok-ok_or.ensures.ok_part ∙ c.hex_byte.ensures) c.in_ok-push.ensures.items
-    ∙ ap (λ l. onto grown (word_bytes l)) (sym (take_rest rest 2))
+pub loop-pair-preserved : goal.loop-pair-preserved
+loop-pair-preserved c =
+    let steps = c.in-Some.ensures.steps in
+    (c.loop-pair.invariant.0 ∙ pair_more (vec_items c.loop-pair.out) (chunks_rest c.loop-pair.pair-iterator) c.in-Some.pair.now _ _ _ steps.1.0 (omega arith) (sym c.in_ok-ok_or.ensures.ok_part ∙ c.hex_byte.ensures) c.in_ok-push.ensures.items, steps.0 ∙ c.loop-pair.invariant.1)
 
-pub returns-then-is_empty : goal.returns-then-is_empty
-returns-then-is_empty c =
-    c.loop-rest.invariant ∙ pair_end (vec_items c.loop-rest.out) c.loop-rest.rest.now c.in_default.len_below ∙ ap (λ t. cond t (Some (vec_items c.loop-rest.out)) None) (sym c.if-is_empty.ensures)
-
-pub returns-else-is_empty : goal.returns-else-is_empty
-returns-else-is_empty c _ =
-    c.loop-rest.invariant ∙ pair_end (vec_items c.loop-rest.out) c.loop-rest.rest.now c.in_default.len_below ∙ ap (λ t. cond t (Some (vec_items c.loop-rest.out)) None) (sym c.if-is_empty.ensures)
+pub returns : goal.returns
+returns c = c.loop-pair.invariant.0 ∙ pairs_end (vec_items c.loop-pair.out) (chunks_rest c.loop-pair.pair-iterator) c.in-None.ensures.steps.1.0

@@ -4,5 +4,5 @@ use Rattle.text.specs.declared.error.LineError.{LineError}
 use Rattle.text.specs.declared.error.LineError.TheVariants.{Unreadable}
 
 -- the value that is read shows what is said; `Unreadable` says that nothing is said; where memory fails, nothing is known of what is said
-abbrev pub Reads : {T X : Type 0} → (T → X) → Result T LineError → (said : Option X) → Type 0
-Reads shows r said = MatchResult r (λ x. said ≡ Some (shows x)) (λ e. e ≡ Unreadable → said ≡ None)
+abbrev pub ReadsAs : {T X : Type 0} → (T → X) → Result T LineError → (said : Option X) → Type 0
+ReadsAs shows r said = MatchResult r (λ x. said ≡ Some (shows x)) (λ e. e ≡ Unreadable → said ≡ None)
