@@ -1,6 +1,6 @@
 -- The answer to a question about a chain, from what the search answers. Assumes nothing.
-use Rattle.std.proofs.Common.{◌≡◌, ℕ, ◌-◌, ◌≤◌, List, map, length, take, drop, vec_items, vec_len, Vec, Some, None, Ok, Err, Option, Result, sym, ap, ◌∙◌, subst, arith}
-use Rattle.std.proofs.lemmas.List.{length-take-le, length-map}
+use Rattle.std.proofs.Common.{◌≡◌, ℕ, ◌<◌, List, [], map, length, take, slice_index_or, vec_items, vec_len, Vec, Some, None, Ok, Err, Option, Result, sym, ap, ◌∙◌, subst, arith}
+use Rattle.std.proofs.lemmas.List.{get_or-map, length-map}
 use Rattle.certificate.specs.Rejections.{number}
 use Rattle.certificate.specs.declared.Rejection.{Rejection}
 use Rattle.shortest.specs.Answers as search
@@ -13,10 +13,6 @@ use Rattle.session.specs.Answers.{lent, ChainAnswer, shortest, none, refused}
 pub renamed : (P : ℕ → List ℕ → List ℕ → List ℕ → Type 0) (n m : ℕ) (a b c x y z : List ℕ) → n ≡ m → a ≡ x → b ≡ y → c ≡ z → P n a b c → P m x y z
 renamed P n m a b c x y z e f g h p =
     subst (λ l. P m x y l) h (subst (λ l. P m x l c) g (subst (λ l. P m l b c) f (subst (λ k. P k a b c) e p)))
-
--- as many elements of a buffer are lent as there are papers, and no more than it has
-pub lent_size : (buffer : List ℕ) (size : ℕ) → size ≤ length buffer → length (take (size - 0) (drop 0 buffer)) ≡ size
-lent_size buffer size le = let same : size - 0 ≡ size = omega arith in ap (λ k. length (take k buffer)) same ∙ length-take-le size buffer le
 
 -- there are as many papers as bytes of papers
 pub papers_count : {Z : Type 0} (papers : Vec (Vec ℕ Z) Z) → vec_len papers ≡ length (map vec_items (vec_items papers))
