@@ -1,5 +1,5 @@
 -- What more certificates, signatures and anchors do to an answer. Assumes nothing.
-use Rattle.std.proofs.Common.{◌≡◌, ℕ, ◌+◌, ◌*◌, ◌<◌, true, false, eqb, List, get_or, take, Some, None, Ok, Err, sym, refl, ◌∙◌, arith}
+use Rattle.std.proofs.Common.{◌≡◌, ℕ, ◌+◌, ◌*◌, ◌<◌, eqb, List, get_or, take, Some, None, Ok, Err, sym, refl, ◌∙◌, arith}
 use Rattle.std.proofs.lemmas.Bool.{eqb-true, eq-eqb}
 use Rattle.format.proofs.Readings.{one_reading}
 use Rattle.element.specs.Judged.{deepest, longest}
@@ -8,7 +8,7 @@ use Rattle.trust.proofs.Means.{more_keeps}
 use Rattle.trust.proofs.Shortest.{chain_or_none}
 use Rattle.certificate.specs.Sixes.{certificate_at, pool}
 use Rattle.certificate.specs.declared.Rejection.{Rejection}
-use Rattle.shortest.specs.Promise.{Promise, Grows, MoreAnswers, AnswerPasses}
+use Rattle.shortest.specs.Promise.{Promise, Grows, MoreAnswers}
 
 pub promise : Promise
 promise = (one_reading deepest longest, chain_or_none)
@@ -42,7 +42,3 @@ more_answers n cs ss ts m ds us vs day first old new before after k (Ok None) g 
     let c = more_keeps (pool n cs ss ts) (pool m ds us vs) day first (take k new) (extends n cs ss ts m ds us vs g) a.1.shortest.chain in
     absurd (b.1.1 (take k new) c)
 more_answers n cs ss ts m ds us vs day first old new before after k (Err r) g a b e = absurd (some_none (sym b.0 ∙ e))
-
-pub answer_passes : AnswerPasses
-answer_passes n cs ss ts day first old new k true a h = refl
-answer_passes n cs ss ts day first old new k false a h = absurd (h a.1.shortest.chain)

@@ -3,7 +3,6 @@ use Rattle.std.proofs.Common.{◌≡◌, ℕ, suc, ◌-◌, ◌<◌, ◌≤◌, 
 use Rattle.std.proofs.lemmas.List.{drop-set-lt, get_or-set_same, get_or-set_other}
 use Rattle.std.proofs.lemmas.Bool.{cases_eq}
 use Rattle.trust.specs.Layers.{down}
-use Rattle.shortest.specs.LaidOut.{LaidOut}
 
 -- the places from i on are written, below count, and at is what stands below them
 pub record Laying (from : List ℕ) (top count : ℕ) (old new : List ℕ) (at i : ℕ) : Type 0 where
@@ -18,9 +17,6 @@ begun from top count old = record { size = refl; rest = refl; here = refl ∙ ap
   where
     e : 0 ≡ count - count
     e = omega arith
-
-pub done : (from : List ℕ) (top count : ℕ) (old new : List ℕ) (at i : ℕ) → Laying from top count old new at i → i ≤ 0 → LaidOut from top count old new
-done from top count old new at i h z = record { size = h.size; rest = h.rest; each = λ j l. h.each j (omega arith) l }
 
 -- at is written below what stands already, and next is what it was reached from
 pub laid : (from : List ℕ) (top count : ℕ) (old new : List ℕ) (at next i : ℕ) → Laying from top count old new at i → 0 < i → i ≤ count → count ≤ length old → next ≡ get_or from at 0 → Laying from top count old (set new (i - 1) at) next (i - 1)

@@ -1,4 +1,4 @@
-use Rattle.std.proofs.Common.{sym, refl, ap, ◌∙◌, arith}
+use Rattle.std.proofs.Common.{sym, refl, ap, ◌∙◌}
 use Rattle.trust.specs.Chains.{holds}
 use Rattle.trust.proofs.Found.{not_held}
 use Rattle.certificate.specs.Sixes.{most}
@@ -13,15 +13,6 @@ returns-then-not-holds c =
 
 pub climb-requires : goal.climb-requires
 climb-requires c = started _ _ _ most _ _ _ _ _ c.begin-reached.ensures.far c.begin-reached.ensures.from c.begin-reached.ensures.order c.begin-reached.ensures.size c.begin-reached.ensures.over c.args.asked.now.known (ap (λ s. holds s c.args.asked.now.day) (sym (said_at _ _ c.at.result c.at.ensures)) ∙ sym c.if-not-holds.ensures) c.args.asked.now.view.few
-
-pub lay_out-requires : goal.lay_out-requires
-lay_out-requires c =
-    let top = c.in_ok-top.ensures in
-    record {
-      top_fits = omega (arith, top.1.known, c.args.asked.now.view.few);
-      count_fits = omega (arith, c.layer-count.ensures, top.1.layer, top.1.few, c.requires);
-      from_fits = λ a. omega (arith, top.1.tree.below a, c.args.asked.now.view.few);
-    }
 
 pub returns : goal.returns
 returns c =
