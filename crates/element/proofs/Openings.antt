@@ -3,7 +3,7 @@ use Rattle.std.proofs.Common.{◌≡◌, ℕ, suc, ◌+◌, ◌-◌, ◌<◌, �
 use Rattle.std.proofs.lemmas.List.{take_rest}
 use Rattle.format.specs.Elements.{written_length, framed}
 use Rattle.format.proofs.Fronts.{Front, frame, front_length_of, front_says}
-use Rattle.format.proofs.Lengths.{written_some, starts_short}
+use Rattle.format.proofs.Lengths.{written_some}
 use Rattle.format.proofs.Rows.{framed_size}
 use Rattle.length.specs.declared.Length.{Length}
 use Rattle.length.specs.Lengths.{Begins, LengthAt, front_length}
@@ -39,13 +39,6 @@ opens_from (t ∷ x) v k some byte h fits =
 pub opens_short : (b : List ℕ) → 2 ≤ length b → get_or b 0 0 < 256 → get_or b 1 0 < 128 → 2 + get_or b 1 0 ≤ length b → Opens b (get_or b 0 0) 2 (2 + get_or b 1 0)
 opens_short [] h byte k l = absurd (omega arith)
 opens_short (t ∷ x) h byte k l = opens_from (t ∷ x) (get_or x 0 0) 1 (omega arith) byte (begins_short x (omega arith) k) l
-
--- too few bytes behind the length
-pub shut_short : (b : List ℕ) → 2 ≤ length b → get_or b 1 0 < 128 → length b < 2 + get_or b 1 0 → Shut b
-shut_short [] h k l = absurd (omega arith)
-shut_short (t ∷ x) h k l =
-    let e = starts_short x (omega arith) k in
-    shut_from (t ∷ x) (λ f. omega (arith, length-drop 1 x, (front_says longest t (get_or x 0 0) (drop 1 x) (subst (λ y. Front longest (t ∷ y)) e f)).1))
 
 -- fewer than two bytes
 pub shut_few : (b : List ℕ) → length b < 2 → Shut b

@@ -14,6 +14,7 @@ pub struct Ill {
 }
 
 // The first element of bytes: its tag, and from where to where its contents stand.
+// Numbers and no slices: whoever asks for an element's place adds them up.
 #[derive(Clone, Copy)]
 pub struct Opening {
     pub tag: u8,
@@ -22,6 +23,7 @@ pub struct Opening {
 }
 
 // What is left of a row, and how many levels of constructed elements it may have.
+// It is only handed back: of a slice in a struct by value it is not known that its items are bytes, and each contract would ask for it.
 #[derive(Clone, Copy)]
 struct Rest<'a> {
     bytes: &'a [u8],

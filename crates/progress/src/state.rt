@@ -8,7 +8,7 @@ use crate::place::Place;
 pub const ROWS: usize = Progress::MAX_DEPTH + 1;
 
 // Where a reader is, how many levels of constructed elements may open there, and how many bytes each open row still needs, the row with so many levels at that number.
-// An array and a number in place of a Vec: reading takes no memory.
+// An array and a number in place of a Vec, since reading takes no memory; no ghost field says which bytes it has gone over, since `skip` is not given them.
 #[derive(Clone, Copy)]
 pub struct Progress {
     pub(crate) place: Place,
