@@ -6,7 +6,7 @@ ghost use Rattle.encoding.specs.Numbers.{Numbered, number_size};
 pub(crate) const MAX_BYTES: usize = 4;
 
 // The number that the bytes are, if they are one's.
-#[tactic(auto, using(crate::proofs::Digits::shaped))]
+#[tactic(auto, using(crate::proofs::Digits::shaped, crate::proofs::Digits::one_number, crate::proofs::Digits::two_number, crate::proofs::Digits::three_number, crate::proofs::Digits::four_number))]
 pub(crate) fn read_number(bytes: &[u8]) -> Option<u32>
     ensures { Numbered bytes.now result }
 {

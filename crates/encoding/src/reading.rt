@@ -46,6 +46,7 @@ fn fields(start: Cursor<'_>) -> Option<Certificate>
 }
 
 // The number that the next field says, if it has this tag and says one.
+#[tactic(auto, using(crate::proofs::Digits::few_bytes, crate::proofs::Tails::field_read))]
 fn number(fields: &mut Cursor<'_>, tag: Tag) -> Option<u32>
     requires { PlacesFit fields.old }
     ensures { Field fields.old (tag_of tag) result fields.new }

@@ -10,6 +10,7 @@ use std::alloc::{AllocError, Global};
 use writer::{WriteError, append_constructed, append_primitive};
 
 // The bytes of a certificate, or want of memory.
+#[tactic(auto, using(crate::proofs::Laws::permit_written, crate::proofs::Laws::written_behind, crate::proofs::Laws::fields_read, crate::proofs::Wholes::fields_few))]
 pub fn encode(heap: Global, c: &Certificate) -> Result<Vec<u8>, AllocError>
     ensures { IfOk result (λ v. v.items ≡ permit_bytes (certificate_of c.now)) }
 {
@@ -34,6 +35,7 @@ fn fields(heap: Global, c: &Certificate) -> Result<Vec<u8>, AllocError>
 }
 
 // Writes a field that says a number behind the bytes.
+#[tactic(auto, using(crate::proofs::Laws::number_written, crate::proofs::Laws::written_behind))]
 fn append_number(out: &mut Vec<u8>, tag: Tag, value: u32) -> Result<(), AllocError>
     ensures { OnOk result (Appended (tag_of tag) value out.old.items out.new.items) }
 {
