@@ -15,7 +15,7 @@ mark_bytes b = cond b 1 0 ∷ []
 abbrev pub marked : ℕ → Option Bool
 marked n = cond (n == 0) (Some false) (cond (n == 1) (Some true) None)
 
--- the number that a tag is
+-- the byte that a tag is
 abbrev pub tag_of : Tag → ℕ
 tag_of Subject = 1
 tag_of Issuer = 2

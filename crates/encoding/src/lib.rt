@@ -29,8 +29,8 @@ impl Certificate {
 }
 
 // The fields of a permit, in their order, by their tags.
-#[derive(Clone, Copy)]
-enum Tag {
+#[derive(Clone, Copy, PartialEq, Eq, Debug)]
+pub enum Tag {
     Subject = 1,
     Issuer = 2,
     NotBefore = 3,
@@ -40,8 +40,8 @@ enum Tag {
 }
 
 impl Tag {
-    // The number that a tag is.
-    fn number(self) -> u8
+    // The byte that a tag is.
+    pub fn number(self) -> u8
         ensures { result ≡ tag_of self }
     {
         self as u8
