@@ -8,10 +8,6 @@ use Rattle.std.specs.Simd.{first_chunks}
 use Rattle.certificate.specs.Sixes.{First, none_below, all_marks, faulty}
 use Rattle.certificate.specs.Places.{bad_mark}
 
--- what follows a test that holds
-pub after_true : (a b : Bool) → a ≡ true → b ≡ (a && b)
-after_true a b e = sym (ap (λ t. t && b) e)
-
 -- a test that fails below n holds nowhere below n
 none_from : (n : ℕ) (test : ℕ → Bool) → ((i : ℕ) → i < n → test i ≡ false) → none_below n test ≡ true
 unfolding none_below

@@ -38,7 +38,7 @@ pub struct PoolInput<'a> {
     pub anchors: &'a [u8],
 }
 
-// Why an input is rejected, by the number by which the rejection is known.
+// Why an input is rejected; each reason has the number by which it is known.
 #[derive(Clone, Copy, PartialEq, Eq, Debug)]
 pub enum Rejection {
     // No certificate, too many, not six numbers each, or a mark of who may issue above 1.
