@@ -6,10 +6,11 @@ use Rattle.std.proofs.lemmas.List.{nil_from_length, drop_more, get_or_append_lef
 use Rattle.format.specs.Elements.{Row, empty, framed, written, Reads}
 use Rattle.format.specs.Paths.{nth, inside, at_path, before, header, place}
 use Rattle.format.proofs.Places.{at_path_empty, part_of_bytes}
+use Rattle.format.proofs.Readings.{same_reading}
 use Rattle.format.proofs.Walks.{Step, step, stop}
 use Rattle.path.specs.Cursors.{ahead, Passes, Next, CursorGives}
 use Rattle.element.specs.Judged.{deepest, longest}
-use Rattle.path.specs.Located.{Leads, Nowhere, Found}
+use Rattle.path.specs.Located.{Leads, Nowhere, Found, PieceMeans}
 use Rattle.path.specs.declared.walking.Cursor.{Cursor}
 use Rattle.path.specs.declared.walking.Element.{Element}
 use Rattle.element.proofs.Openings.{front_of}
@@ -203,6 +204,18 @@ led_last bytes path i c h n e none whole (Some x) u ran = led_found bytes path i
 pub inside_none : {r : Row} → r ≡ empty → inside r ≡ empty
 unfolding inside
 inside_none e = ap inside e
+
+-- what a piece is, by the one reading of the bytes
+pub piece_means : PieceMeans
+unfolding written
+piece_means bytes path (Some part) (at, leads) =
+    let is : (row : Row) → Reads deepest longest bytes row → part ≡ written (at_path row path) = λ row h. leads.is ∙ ap (λ r. written (at_path r path)) (sym (same_reading deepest longest bytes leads.row row leads.reads h)) in
+    record {
+      is = is;
+      there = λ row h. is row h ∙ sym (part_of_bytes deepest longest bytes row path h) ∙ ap (λ (w : List ℕ). take (length w) (drop (place row path) bytes)) (sym (is row h));
+      malformed = λ f. absurd (f leads.row leads.reads);
+    }
+piece_means bytes path None f = record { is = λ row h. ap written (sym (f row h)); there = λ row h. refl; malformed = λ g. refl }
 
 -- the elements that a cursor gives, one behind the other
 given_joined : (xs : List Element) (s t : Cursor) → Yields Next s xs t → ahead s ≡ flat_map (λ e. e.whole.now) xs ++ ahead t

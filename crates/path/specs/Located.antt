@@ -1,5 +1,6 @@
 -- What looking for an element by its path answers. Assumes nothing: these are definitions.
-use Rattle.std.specs.Prelude.{◌≡◌, ℕ, List, length, take, drop, Some, None, Option, ◌≢◌}
+use Rattle.std.specs.Prelude.{◌≡◌, ℕ, List, [], length, take, drop, Some, None, Option, ◌≢◌}
+use Rattle.std.specs.Option.{unwrap_or}
 use Rattle.format.specs.Elements.{Row, empty, written, Reads}
 use Rattle.format.specs.Paths.{at_path, place}
 use Rattle.element.specs.Judged.{deepest, longest}
@@ -33,3 +34,13 @@ Located b path None = Nowhere b path
 abbrev pub Piece : (bytes path : List ℕ) → Option (List ℕ) → Type 0
 Piece b path (Some part) = (at : ℕ) × Leads b path at part
 Piece b path None = Nowhere b path
+
+-- the bytes of a part, or no bytes: of each reading of all bytes they are the element that the path leads to, as it is written, and stand at its place; malformed bytes have none
+pub record IsPart (bytes path part : List ℕ) : Type 0 where
+  pub is : (row : Row) → Reads deepest longest bytes row → part ≡ written (at_path row path)
+  pub there : (row : Row) → Reads deepest longest bytes row → part ≡ take (length part) (drop (place row path) bytes)
+  pub malformed : ((row : Row) → Reads deepest longest bytes row → ⊥) → part ≡ []
+
+-- a piece is just that
+abbrev pub PieceMeans : Type 0
+PieceMeans = (bytes path : List ℕ) (o : Option (List ℕ)) → Piece bytes path o → IsPart bytes path (unwrap_or o [])

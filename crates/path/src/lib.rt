@@ -4,5 +4,5 @@
 mod paths;
 mod walking;
 
-pub use paths::{Span, find, locate, piece};
+pub use paths::{Span, find, locate, piece, piece_means_stands};
 pub use walking::{Cursor, Element, cursor_gives_stands};

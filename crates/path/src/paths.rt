@@ -1,6 +1,6 @@
 // Elements found by their paths.
 ghost use Rattle.std.specs.Prelude.{option_map};
-ghost use Rattle.path.specs.Located.{Found, Located, Piece};
+ghost use Rattle.path.specs.Located.{Found, Located, Piece, PieceMeans};
 
 use crate::walking::{Cursor, Element};
 use element::judge;
@@ -43,4 +43,11 @@ pub fn piece<'a>(bytes: &'a [u8], path: &[u64]) -> Option<&'a [u8]>
     ensures { Piece bytes.now path.now (option_map (λ part. part.now) result) }
 {
     find(bytes, path).map(|element| element.whole)
+}
+
+// A piece is the element as it is written, at its place, for each reading of the bytes.
+pub fn piece_means_stands() -> u8
+    ensures { PieceMeans }
+{
+    0
 }
