@@ -26,7 +26,7 @@ pub const MAY_ISSUE: usize = 4;
 
 pub const PATH_LEN: usize = 5;
 
-// The mark that says yes, and the largest mark that there is.
+// The mark that says yes, and the largest mark that there is: marks are bytes at the C interface.
 pub const YES: u8 = 1;
 
 // What is handed in of a pool, not yet checked: how many certificates, six numbers each, a signature mark for each two and an anchor mark for each.

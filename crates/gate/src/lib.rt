@@ -15,7 +15,7 @@ use element::Ill;
 use path::locate;
 use shortest::find_chain;
 
-// A part of the bytes: where it begins, and how many bytes it has.
+// A part of the bytes: where it begins, and how many bytes it has. C has no option: none is a part of none.
 #[repr(C)]
 #[derive(Clone, Copy)]
 pub struct Part {
@@ -23,7 +23,7 @@ pub struct Part {
     pub len: u64,
 }
 
-// What a question about a chain is answered: 0 or the number of the rejection, and how many certificates the chain has.
+// What a question about a chain is answered: 0 or the number of the rejection, and how many certificates the chain has, as C reads it.
 #[repr(C)]
 #[derive(Clone, Copy)]
 pub struct ChainAnswer {
@@ -31,7 +31,7 @@ pub struct ChainAnswer {
     pub len: u64,
 }
 
-// Whether the bytes are a row of elements: 0 if they are, k + 1 if they are ill at k.
+// Whether the bytes are a row of elements, as a number of C: 0 if they are, k + 1 if they are ill at k.
 #[unsafe(no_mangle)]
 pub extern "C" fn judge(bytes: &[u8]) -> u64
     ensures { (v : Result Unit IllAt) × Judged bytes.now v × (result ≡ verdict_number v) }

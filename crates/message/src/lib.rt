@@ -1,4 +1,5 @@
 // The texts of the answers, put behind the bytes of a vector.
+// They are no `Display`: a formatter's error would not say that memory failed.
 #![tactic(auto)]
 
 ghost use Rattle.std.specs.Prelude.{◌≡◌, ◌<◌, ◌∷◌, ◌++◌, ℕ, List, decimal};
@@ -46,28 +47,6 @@ fn push_number(out: &mut Vec<u8>, before: &[u8], n: u64) -> Result<(), AllocErro
 {
     push_text(out, before)?;
     push_decimal(out, n)
-}
-
-// A text, a number behind it, and the end of the line.
-fn end_number(out: &mut Vec<u8>, before: &[u8], n: u64) -> Result<(), AllocError>
-    ensures { Appends result out.old.items (before.now ++ (decimal n ++ line_feed)) out.new.items }
-{
-    push_number(out, before, n)?;
-    end_line(out)
-}
-
-// Two texts with a number behind each, and the end of the line.
-fn end_numbers(
-    out: &mut Vec<u8>,
-    before: &[u8],
-    n: u64,
-    between: &[u8],
-    m: u64,
-) -> Result<(), AllocError>
-    ensures { Appends result out.old.items (before.now ++ (decimal n ++ (between.now ++ (decimal m ++ line_feed)))) out.new.items }
-{
-    push_number(out, before, n)?;
-    end_number(out, between, m)
 }
 
 // A digit of base sixteen, in lower case.
@@ -171,12 +150,15 @@ pub fn append_none(out: &mut Vec<u8>) -> Result<(), AllocError>
 pub fn append_ill(out: &mut Vec<u8>, at: u64) -> Result<(), AllocError>
     ensures { Appends result out.old.items (ill_text at) out.new.items }
 {
-    end_number(out, b"ill at ", at)
+    push_number(out, b"ill at ", at)?;
+    end_line(out)
 }
 
 // `refused 3 at 7`
 pub fn append_refusal(out: &mut Vec<u8>, number: u64, place: u64) -> Result<(), AllocError>
     ensures { Appends result out.old.items (refusal_text number place) out.new.items }
 {
-    end_numbers(out, b"refused ", number, b" at ", place)
+    push_number(out, b"refused ", number)?;
+    push_number(out, b" at ", place)?;
+    end_line(out)
 }

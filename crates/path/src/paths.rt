@@ -1,4 +1,5 @@
 // Elements found by their paths.
+// Bytes and a path come by themselves, from C and from a line of text: a value of both would live for one call.
 ghost use Rattle.std.specs.Prelude.{option_map};
 ghost use Rattle.path.specs.Located.{Found, Located, Piece, PieceMeans};
 

@@ -66,7 +66,7 @@ impl Place {
         }
     }
 
-    // Behind a tag.
+    // Behind a tag. What is left of the row is the reader's, a tag the place's: no value holds both.
     fn after_tag(room: usize, levels: usize, tag: u8) -> Place
         ensures { result ≡ after_tag room levels tag }
     {

@@ -1,10 +1,11 @@
 -- A row printed element by element. Assumes nothing.
-use Rattle.std.proofs.Common.{◌≡◌, ℕ, ◌+◌, ◌<◌, ◌≤◌, true, List, [], ◌++◌, length, is_ok, is_err, Some, None, Ok, Err, Result, sym, refl, ap, ◌∙◌, append_assoc, append-nil, arith, length-append}
+use Rattle.std.proofs.Common.{◌≡◌, ℕ, ◌+◌, ◌<◌, ◌≤◌, true, List, [], ◌++◌, length, is_ok, is_err, Some, None, Ok, Err, Result, sym, refl, ap, ◌∙◌, append_assoc, append-nil, arith}
 use Rattle.format.specs.Elements.{Row, empty, primitive, constructed, framed, written, Reads}
 use Rattle.format.proofs.Fronts.{same_front}
 use Rattle.format.proofs.Rows.{primitive_parts, constructed_parts, framed_size}
 use Rattle.format.proofs.Walks.{stop}
 use Rattle.path.specs.Cursors.{ahead, Passes, Next}
+use Rattle.path.proofs.Walks.{split, same_end}
 use Rattle.element.specs.Judged.{longest}
 use Rattle.path.specs.declared.walking.Cursor.{Cursor}
 use Rattle.path.specs.declared.walking.Element.{Element}
@@ -57,16 +58,13 @@ printed_all level start old items c u p e d row h =
     let none : left ≡ empty = stop d longest (ahead c) left reads (front_of (ahead c) e.1) in
     sym (same ∙ ap (λ l. items ++ row_text level l) none ∙ append-nil items)
 
-split_at : {c : Cursor} {x : Element} {u : Cursor} → Passes c x u → ahead c ≡ framed x.tag x.contents.now ++ ahead u
-split_at {c} {x} {u} s = s.front ∙ ap (λ l. l ++ ahead u) s.whole
-
 -- the contents and what is left are shorter
 pub shorter : {c : Cursor} {x : Element} {u : Cursor} → Passes c x u → 2 + length x.contents.now + length (ahead u) ≤ length (ahead c)
-shorter {c} {x} {u} s = omega (arith, framed_size x.tag x.contents.now (ahead u), ap length (split_at s))
+shorter {c} {x} {u} s = omega (arith, framed_size x.tag x.contents.now (ahead u), ap length (split s))
 
 -- the contents end where the element ends, and that is no further than where the row ends
 pub ends_within : {c : Cursor} {x : Element} {u : Cursor} → Passes c x u → x.contents_at + length x.contents.now ≤ c.at + length (ahead c)
-ends_within {c} {x} {u} s = omega (arith, s.within, s.place, ap length s.front, length-append x.whole.now (ahead u))
+ends_within s = omega (arith, s.within, s.place, s.on, same_end s)
 
 module _ (level : ℕ) (start old was : List ℕ) (c : Cursor) (x : Element) (u : Cursor) (p : Printed level start old was (ahead c)) (s : Passes c x u) where
   -- a primitive element is printed
@@ -76,7 +74,7 @@ module _ (level : ℕ) (start old was : List ℕ) (c : Cursor) (x : Element) (u 
     less = omega (arith, p.less, shorter s);
     on = λ d row h.
         let (left, reads, same) = p.on d row h in
-        elim (split_text d level (ahead c) left reads x.tag x.contents.now (ahead u) (split_at s)) [
+        elim (split_text d level (ahead c) left reads x.tag x.contents.now (ahead u) (split s)) [
           | plain low' behind r text ↦ (behind, r, same ∙ ap (λ l. was ++ l) text ∙ sym (append_assoc was (element_text level x.tag (Some x.contents.now)) (row_text level behind)) ∙ ap (λ l. l ++ row_text level behind) (sym e))
           | nested high less q rq behind r text ↦ absurd (omega arith)
         ];
@@ -89,7 +87,7 @@ module _ (level : ℕ) (start old was : List ℕ) (c : Cursor) (x : Element) (u 
     less = omega (arith, p.less, shorter s);
     on = λ d row h.
         let (left, reads, same) = p.on d row h in
-        elim (split_text d level (ahead c) left reads x.tag x.contents.now (ahead u) (split_at s)) [
+        elim (split_text d level (ahead c) left reads x.tag x.contents.now (ahead u) (split s)) [
           | plain low behind r text ↦ absurd (omega arith)
           | nested high' less q rq behind r text ↦
               let own = element_text level x.tag None in

@@ -1,5 +1,5 @@
 -- The answer to a line. Assumes nothing: these are definitions.
-use Rattle.std.specs.Prelude.{◌≡◌, ℕ, ◌<◌, ◌≤◌, min, List, [], ◌∷◌, ◌++◌, length, Some, None, Option, Result, MatchResult, slice_index_or}
+use Rattle.std.specs.Prelude.{◌≡◌, ℕ, ◌<◌, ◌≤◌, min, List, [], ◌++◌, length, Some, None, Option, Result, MatchResult, slice_index_or}
 use Rattle.format.specs.Elements.{Row, Reads}
 use Rattle.format.specs.Viable.{IllAt}
 use Rattle.element.specs.Judged.{deepest, longest}

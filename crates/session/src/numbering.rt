@@ -15,7 +15,7 @@ fn push_six(numbers: &mut Vec<u32>, c: Certificate) -> Result<(), AllocError>
         c.issuer,
         c.not_before,
         c.not_after,
-        c.may_issue as u32,
+        u32::from(c.may_issue),
         c.path_len,
     ];
     numbers.extend_from_slice(&six)

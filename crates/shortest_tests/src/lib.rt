@@ -40,6 +40,15 @@ mod tests {
         }
     }
 
+    // The certificates with another number at a place.
+    fn with(place: usize, number: u32) -> [u32; 24] {
+        let mut numbers = NUMBERS;
+        if let Some(there) = numbers.get_mut(place) {
+            *there = number;
+        }
+        numbers
+    }
+
     #[test]
     fn second_candidate(rt: HostRuntime) {
         assert_eq!(rt; ask(&NUMBERS, 120), (Ok(Some(3)), [0, 2, 3, EMPTY]));
@@ -47,16 +56,12 @@ mod tests {
 
     #[test]
     fn path_length_leaves_out_the_first(rt: HostRuntime) {
-        let mut numbers = NUMBERS;
-        numbers[17] = 0;
-        assert_eq!(rt; ask(&numbers, 120), (Ok(Some(3)), [0, 2, 3, EMPTY]));
+        assert_eq!(rt; ask(&with(17, 0), 120), (Ok(Some(3)), [0, 2, 3, EMPTY]));
     }
 
     #[test]
     fn path_length_too_small(rt: HostRuntime) {
-        let mut numbers = NUMBERS;
-        numbers[23] = 0;
-        assert_eq!(rt; ask(&numbers, 120), (Ok(None), [EMPTY; 4]));
+        assert_eq!(rt; ask(&with(23, 0), 120), (Ok(None), [EMPTY; 4]));
     }
 
     #[test]
@@ -70,9 +75,7 @@ mod tests {
     // The days of every certificate count, not those of the first alone.
     #[test]
     fn day_of_the_anchor(rt: HostRuntime) {
-        let mut numbers = NUMBERS;
-        numbers[21] = 119;
-        assert_eq!(rt; ask(&numbers, 120).0, Ok(None));
+        assert_eq!(rt; ask(&with(21, 119), 120).0, Ok(None));
     }
 
     #[test]
@@ -99,48 +102,32 @@ mod tests {
         assert_eq!(rt; answer, Ok(None));
     }
 
+    // Whether from each of these certificates, in its input, the question is rejected for a reason.
+    fn all_rejected(asked: [(PoolInput<'_>, u64); 4], why: Rejection) -> bool {
+        asked.iter().all(|(input, first)| find_chain(*input, 5, *first, &mut [EMPTY; 0])
+            == Err(why))
+    }
+
     #[test]
     fn rejected_certificates(rt: HostRuntime) {
-        let certificates = Err(Rejection::Certificates);
-        let mut out = [EMPTY; 0];
-        assert_eq!(rt;
-            find_chain(pool(0, &[], &[], &[]), 5, 0, &mut out),
-            certificates
-        );
-        assert_eq!(rt;
-            find_chain(pool(201, &[], &[], &[]), 5, 0, &mut out),
-            certificates
-        );
-        assert_eq!(rt;
-            find_chain(pool(1, &[1; 5], &[2], &[2]), 5, 1, &mut out),
-            certificates
-        );
-        assert_eq!(rt;
-            find_chain(pool(1, &[2; 6], &[2], &[2]), 5, 1, &mut out),
-            certificates
-        );
+        let asked = [
+            (pool(0, &[], &[], &[]), 0),
+            (pool(201, &[], &[], &[]), 0),
+            (pool(1, &[1; 5], &[2], &[2]), 1),
+            (pool(1, &[2; 6], &[2], &[2]), 1),
+        ];
+        assert!(rt; all_rejected(asked, Rejection::Certificates));
     }
 
     #[test]
     fn rejected_marks(rt: HostRuntime) {
-        let marks = Err(Rejection::Marks);
-        let mut out = [EMPTY; 0];
-        assert_eq!(rt;
-            find_chain(pool(1, &[1; 6], &[], &[1]), 5, 1, &mut out),
-            marks
-        );
-        assert_eq!(rt;
-            find_chain(pool(1, &[1; 6], &[1], &[]), 5, 1, &mut out),
-            marks
-        );
-        assert_eq!(rt;
-            find_chain(pool(1, &[1; 6], &[2], &[1]), 5, 1, &mut out),
-            marks
-        );
-        assert_eq!(rt;
-            find_chain(pool(1, &[1; 6], &[1], &[2]), 5, 1, &mut out),
-            marks
-        );
+        let asked = [
+            (pool(1, &[1; 6], &[], &[1]), 1),
+            (pool(1, &[1; 6], &[1], &[]), 1),
+            (pool(1, &[1; 6], &[2], &[1]), 1),
+            (pool(1, &[1; 6], &[1], &[2]), 1),
+        ];
+        assert!(rt; all_rejected(asked, Rejection::Marks));
     }
 
     #[test]

@@ -1,4 +1,5 @@
 // Numbers and bytes, read from words.
+// The heap is handed on beside the words: whatever allocates takes it, and no words own it.
 ghost use Rattle.std.specs.Prelude.{◌≡◌, ◌++◌, ◌<◌, ℕ, List, Option, Some, IfSome, vec_items};
 ghost use Rattle.std.specs.Option.{option_map};
 ghost use Rattle.std.specs.Fn.{FnReturnsAt};

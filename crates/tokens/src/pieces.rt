@@ -10,7 +10,7 @@ pub struct Words<'a> {
     rest: &'a [u8],
 }
 
-// The lines of a text that are not handed out yet.
+// The lines of a text that are not handed out yet. A line may be empty and a word may not, so these are two types.
 #[derive(Drop)]
 pub struct Lines<'a> {
     rest: &'a [u8],

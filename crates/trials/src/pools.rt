@@ -53,6 +53,7 @@ impl Certificate {
 }
 
 // The first `count` certificates, a signature mark for each two of them and an anchor mark for each.
+// Arrays with room for the most: with vectors each draw could fail by memory.
 #[derive(Clone, Copy)]
 struct Pool {
     count: usize,

@@ -32,6 +32,7 @@ impl From<AllocError> for WriteError {
 }
 
 // Writes the parts of an element one after the other; where memory fails, some of them may stand there.
+// Tag and contents go by themselves: a value of both would promise what is tried here.
 #[tactic(auto, unfolding(format::specs::Elements::framed))]
 fn append_parts(out: &mut Vec<u8>, tag: u8, contents: &[u8]) -> Result<(), WriteError>
     ensures { Appended Unit Unit tag contents.now out.old.items (if is_ok result then out.new.items else take (vec_len out.old) out.new.items) result }
