@@ -8,6 +8,7 @@ ghost use Rattle.certificate.specs.Sixes.{First, faulty, all_marks, certificates
 use crate::{MAY_ISSUE, MOST, PoolInput, Rejection, SIX, YES};
 
 // The first of these certificates whose mark of who may issue is above 1, as many as they are if there is none.
+// A number and no option: the place of a rejection is this number, also where there is none.
 fn first_ill_marked(sixes: &[[u32; SIX]]) -> usize
     ensures { First (length sixes.now) (λ i. bad_mark (slice_index_or sixes.now i []) 4) result }
 {
@@ -17,7 +18,7 @@ fn first_ill_marked(sixes: &[[u32; SIX]]) -> usize
         .unwrap_or(sixes.len())
 }
 
-// The first certificate below n that is not there whole or has a mark above 1, n if there is none.
+// The first certificate below n that is not there whole or has a mark above 1, n if there is none: a number, for it is a place.
 pub(crate) fn first_faulty(n: usize, numbers: &[u32]) -> usize
     ensures { First n (faulty numbers.now) result }
 {

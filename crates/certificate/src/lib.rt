@@ -30,6 +30,7 @@ pub const PATH_LEN: usize = 5;
 pub const YES: u8 = 1;
 
 // What is handed in of a pool, not yet checked: how many certificates, six numbers each, a signature mark for each two and an anchor mark for each.
+// C hands in the count by itself, and it may not fit the lists.
 #[derive(Clone, Copy)]
 pub struct PoolInput<'a> {
     pub count: u64,
@@ -54,7 +55,7 @@ pub enum Rejection {
 }
 
 impl Rejection {
-    // The number by which the rejection is known.
+    // The number by which the rejection is known: a method, since contracts and C speak of it by this name.
     pub fn number(self) -> u8
         ensures { result ≡ number self }
     {

@@ -6,7 +6,7 @@ ghost use Rattle.certificate.specs.Sixes.{First};
 use crate::checks::{all_marks, first_faulty, is_square};
 use crate::{MOST, PoolInput, YES};
 
-// The first mark above 1, as many as there are if there is none.
+// The first mark above 1, as many as there are if there is none: a number, for it is a place.
 fn first_bad(marks: &[u8]) -> usize
     ensures { First (length marks.now) (bad_mark marks.now) result }
 {

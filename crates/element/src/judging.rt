@@ -23,7 +23,7 @@ pub struct Opening {
 }
 
 // What is left of a row, and how many levels of constructed elements it may have.
-// It is only handed back: of a slice in a struct by value it is not known that its items are bytes, and each contract would ask for it.
+// A result and no parameter: of a slice within a struct it is not known that its items are bytes.
 #[derive(Clone, Copy)]
 struct Rest<'a> {
     bytes: &'a [u8],

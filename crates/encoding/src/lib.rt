@@ -39,12 +39,12 @@ pub enum Tag {
     PathLen = 6,
 }
 
-impl Tag {
+impl From<Tag> for u8 {
+    ghost from_gives = { λ tag byte. byte ≡ tag_of tag };
+
     // The byte that a tag is.
-    pub fn number(self) -> u8
-        ensures { result ≡ tag_of self }
-    {
-        self as u8
+    fn from(tag: Tag) -> u8 {
+        tag as u8
     }
 }
 

@@ -52,7 +52,7 @@ fn number(fields: &mut Cursor<'_>, tag: Tag) -> Option<u32>
     ensures { Field fields.old (tag_of tag) result fields.new }
 {
     let field = fields.next()?;
-    if field.tag != tag.number() {
+    if field.tag != u8::from(tag) {
         return None;
     }
     read_number(field.contents)

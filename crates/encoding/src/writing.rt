@@ -41,7 +41,7 @@ fn append_number(out: &mut Vec<u8>, tag: Tag, value: u32) -> Result<(), AllocErr
 {
     let bytes = value.to_be_bytes();
     let start = MAX_BYTES - size_of(value);
-    by_memory(append_primitive(out, tag.number(), &bytes[start..]))
+    by_memory(append_primitive(out, u8::from(tag), &bytes[start..]))
 }
 
 // What came of writing, where only memory can have failed.

@@ -15,7 +15,7 @@ use element::Ill;
 use path::locate;
 use shortest::find_chain;
 
-// A part of the bytes: where it begins, and how many bytes it has. C has no option: none is a part of none.
+// A part of the bytes, in numbers of C: where it begins, and how many bytes it has. C has no option: none is a part of none.
 #[repr(C)]
 #[derive(Clone, Copy)]
 pub struct Part {

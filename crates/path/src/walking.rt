@@ -6,6 +6,7 @@ ghost use Rattle.std.specs.Iterator.{at_most};
 use element::{Opening, Reader};
 
 // What is left of a row of elements, and where that begins in the bytes that were lent.
+// That its places fit is a clause of its steps: in the type it would ask more of whoever builds a cursor.
 #[derive(Clone, Copy)]
 pub struct Cursor<'a> {
     pub rest: &'a [u8],

@@ -113,7 +113,7 @@ impl Book {
             Ok(Command::Chain { first, day }) => self.answer_chain(number, first, day, out),
             Ok(_) => Ok(()),
             Err(LineError::Unreadable) => refuse(out, Rejection::Line, number),
-            Err(LineError::Memory(none)) => Err(none),
+            Err(LineError::Memory(error)) => Err(error),
         }
     }
 }

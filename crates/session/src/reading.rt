@@ -43,7 +43,7 @@ impl Book {
             match read_line(heap, line) {
                 Ok(command) => book.note(command)?,
                 Err(LineError::Unreadable) => {}
-                Err(LineError::Memory(none)) => return Err(none),
+                Err(LineError::Memory(error)) => return Err(error),
             }
         }
         book.numbers = numbers_of(heap, &book.papers)?;

@@ -15,7 +15,7 @@ pub struct Step {
 #[derive(Drop)]
 pub struct Reached {
     steps: [Option<Step>; MOST],
-    // An array with its size: no heap on the searching path, and `Order` speaks of a list with room for all.
+    // An array with its size: no heap on the searching path, and `Order` speaks of a list with room for all, which an `ArrayVec` is not.
     order: [u8; MOST],
     size: usize,
     over: usize,

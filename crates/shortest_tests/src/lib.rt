@@ -102,7 +102,7 @@ mod tests {
         assert_eq!(rt; answer, Ok(None));
     }
 
-    // Whether from each of these certificates, in its input, the question is rejected for a reason.
+    // Whether each of these questions, an input and the certificate asked about, is rejected for this reason.
     fn all_rejected(asked: [(PoolInput<'_>, u64); 4], why: Rejection) -> bool {
         asked.iter().all(|(input, first)| find_chain(*input, 5, *first, &mut [EMPTY; 0])
             == Err(why))

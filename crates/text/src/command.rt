@@ -21,7 +21,8 @@ pub enum Command {
     Chain { first: u64, day: u64 },
 }
 
-// The kinds of lines, by their first word: in one `match` with what is read behind it the last arm is not proved.
+// The kinds of lines, by their first word.
+// A kind of its own: with one `match` on the word, which also reads what stands behind it, the last arm is not proved.
 #[derive(Clone, Copy)]
 enum Key {
     Comment,

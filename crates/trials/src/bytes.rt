@@ -7,7 +7,7 @@ use path::piece;
 // A short string has at most so many bytes.
 const LONGEST: usize = 12;
 
-// There is room for so many bytes, of which a string is the first.
+// There is room for so many bytes, of which a string is the first: as many are drawn for each, however long it is.
 const ROOM: usize = 300;
 
 // A deep string has at most so many elements, each but the last around the next.

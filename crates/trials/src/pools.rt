@@ -10,12 +10,12 @@ use std::array;
 // A pool has at most so many certificates.
 const MOST: usize = 5;
 
-const SIGNATURES: usize = 25;
+const SIGNATURES: usize = MOST * MOST;
 
-// A certificate at a place is a trust anchor so many times of sixteen: the first is so seldom.
+// How many times of sixteen the certificate at each place is a trust anchor: the first seldom is.
 const ANCHORS: [u8; MOST] = [1, 3, 5, 7, 9];
 
-// What a certificate says.
+// What a certificate says, apart from the crates that are tried.
 #[derive(Clone, Copy)]
 struct Certificate {
     subject: u32,

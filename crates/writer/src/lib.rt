@@ -25,7 +25,7 @@ pub enum WriteError {
 impl From<AllocError> for WriteError {
     ghost from_gives = { λ error e. e ≡ Memory error };
 
-    // Want of memory is a reason.
+    // The allocator's error is the reason.
     fn from(error: AllocError) -> WriteError {
         WriteError::Memory(error)
     }

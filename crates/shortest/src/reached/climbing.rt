@@ -38,7 +38,7 @@ impl Reached {
         usize::from(self.steps[a].unwrap().layer)
     }
 
-    // The one below a, 0 if a was not reached.
+    // The one below a, 0 if a was not reached: `from` of the layers is a list with a number for each.
     pub(crate) fn below(&self, a: usize) -> usize
         requires { a < most }
         ensures { result ≡ slice_index (from self.now.steps) a }
