@@ -8,7 +8,7 @@ ghost use Rattle.certificate.specs.Sixes.{First, faulty, all_marks, certificates
 use crate::{MAY_ISSUE, MOST, PoolInput, Rejection, SIX, YES};
 
 // The first of these certificates whose mark of who may issue is above 1, as many as they are if there is none.
-// A number and no option: the place of a rejection is this number, also where there is none.
+// A number, for it is a place. `first_bad` has the same line: one function for both would have the longer contract.
 fn first_ill_marked(sixes: &[[u32; SIX]]) -> usize
     ensures { First (length sixes.now) (λ i. bad_mark (slice_index_or sixes.now i []) 4) result }
 {

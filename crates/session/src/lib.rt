@@ -7,6 +7,7 @@ mod reading;
 mod rows;
 
 // All that a text brings: papers, marks of seals, marks of trusted papers, and the numbers of the papers that are permits.
+// The numbers stand in one row, six for each, as the input of a pool has them.
 #[derive(Drop)]
 pub struct Book {
     papers: Vec<Vec<u8>>,
