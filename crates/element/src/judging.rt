@@ -154,11 +154,10 @@ impl Reader {
         ensures { (depth : ℕ) → 0 < depth → IfSome result (λ contents. Decides depth bytes.now (depth - 1) contents.now) }
     {
         match bytes {
-            [
-                (Reader::CONSTRUCTED..),
-                size @ ..Length::SHORT,
-                contents @ ..,
-            ] if usize::from(*size) == contents.len() => Some(contents),
+            [tag, size, contents @ ..]
+                if *tag >= Reader::CONSTRUCTED
+                    && *size < Length::SHORT
+                    && usize::from(*size) == contents.len() => Some(contents),
             _ => None,
         }
     }
@@ -168,8 +167,10 @@ impl Reader {
         ensures { (depth : ℕ) → IfSome result (λ behind. (length behind.now < length bytes.now) × Decides depth bytes.now depth behind.now) }
     {
         match bytes {
-            [..Reader::CONSTRUCTED, size @ ..Length::SHORT, behind @ ..]
-                if usize::from(*size) <= behind.len() => Some(&behind[usize::from(*size)..]),
+            [tag, size, behind @ ..]
+                if *tag < Reader::CONSTRUCTED
+                    && *size < Length::SHORT
+                    && usize::from(*size) <= behind.len() => Some(&behind[usize::from(*size)..]),
             _ => None,
         }
     }

@@ -5,8 +5,8 @@ use Rattle.element.proofs.Openings.{opens_short}
 use Rattle.element.proofs.Steps.{decides_start, decides_last}
 use Rattle.element.proofs.judging.Reader.within_short.Goals as goal
 
-pub returns-in-128-to-255 : goal.returns-in-128-to-255
-returns-in-128-to-255 c = λ depth some.
+pub returns-in-len2-up : goal.returns-in-len2-up
+returns-in-len2-up c = λ depth some.
     let b = c.args.bytes.now in
     let start = decides_start depth b (all_bytes_from b (λ i. (c.type_inv.bytes i).fits)) in
     let all = ap length (take_rest b 2) in
