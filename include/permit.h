@@ -2,8 +2,8 @@
  *
  * Each function answers from its arguments alone. None allocates, keeps anything from call to call, or writes
  * anywhere but into the output buffer of `chain`; so they may be called from several threads at once, as long as
- * the output buffers are apart. Pointers are never null, also where a length is 0. Lengths count elements of the
- * type pointed to.
+ * the output buffers are apart. None calls itself: the stack that a call takes does not depend on what it is asked.
+ * Pointers are never null, also where a length is 0. Lengths count elements of the type pointed to.
  */
 #ifndef PERMIT_H
 #define PERMIT_H

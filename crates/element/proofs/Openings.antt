@@ -1,13 +1,13 @@
 -- Where an element opens, and where none does. Assumes nothing.
-use Rattle.std.proofs.Common.{◌≡◌, ℕ, suc, ◌+◌, ◌-◌, ◌<◌, ◌≤◌, List, [], ◌∷◌, ◌++◌, length, get_or, take, drop, Option, sym, ap, ◌∙◌, subst, one-add, arith, length-append, length-drop, length-take-le, get_or-drop, drop-drop, take_at}
+use Rattle.std.proofs.Common.{◌≡◌, ℕ, ◌+◌, ◌-◌, ◌<◌, ◌≤◌, List, [], ◌∷◌, ◌++◌, length, get_or, take, drop, Option, sym, ap, ◌∙◌, subst, arith, length-drop, length-append, length-take-le, get_or-drop, take_at}
 use Rattle.std.proofs.lemmas.List.{take_rest}
 use Rattle.format.specs.Elements.{written_length, framed}
 use Rattle.format.proofs.Fronts.{Front, frame, front_length_of, front_says}
-use Rattle.format.proofs.Lengths.{written_some}
 use Rattle.format.proofs.Rows.{framed_size}
 use Rattle.length.specs.declared.Length.{Length}
 use Rattle.length.specs.Lengths.{Begins, LengthAt, front_length}
-use Rattle.length.proofs.Forms.{begins_short, reads_length}
+use Rattle.length.proofs.Forms.{reads_length}
+use Rattle.element.specs.declared.judging.Opening.{Opening}
 use Rattle.element.specs.Judged.{longest}
 use Rattle.element.specs.Openings.{Opens}
 
@@ -22,23 +22,15 @@ pub front_of : (b : List ℕ) → Shut b → Front longest b → ⊥
 front_of b f g = f g.tag g.contents g.behind g.fits g.is
 
 -- a tag and a length, with enough bytes behind them
-pub opens_from : (b : List ℕ) (v k : ℕ) → 0 < length b → get_or b 0 0 < 256 → Begins (drop 1 b) v k → 1 + k + v ≤ length b → Opens b (get_or b 0 0) (1 + k) (1 + k + v)
-opens_from [] v k some byte h fits = absurd (omega arith)
-opens_from (t ∷ x) v k some byte h fits =
-    let inner : drop (1 + k) (t ∷ x) ≡ drop k x = ap (λ n. drop n (t ∷ x)) (one-add k) in
-    let size : 1 + k + v - (1 + k) ≡ v = omega arith in
-    let contents : take (1 + k + v - (1 + k)) (drop (1 + k) (t ∷ x)) ≡ take v (drop k x) = λ i. take (size i) (inner i) in
-    let outer : 1 + k + v ≡ suc (k + v) = omega arith in
-    let behind : drop (1 + k + v) (t ∷ x) ≡ drop v (drop k x) = ap (λ n. drop n (t ∷ x)) outer ∙ sym (drop-drop v k x) in
-    let l = length-drop k x in
-    let whole = frame t v (drop k x) (t ∷ x) (omega arith) (ap (λ y. t ∷ y) h.is) in
-    let some_size : 1 ≤ k = omega (arith, h.takes, written_some v) in
-    record { byte = byte; header = omega arith; forward = omega arith; within = fits; fits = omega (arith, h.limit); is = whole ∙ sym (λ i. framed t (contents i) ++ behind i) }
-
--- a tag and a length of one byte, with enough bytes behind them
-pub opens_short : (b : List ℕ) → 2 ≤ length b → get_or b 0 0 < 256 → get_or b 1 0 < 128 → 2 + get_or b 1 0 ≤ length b → Opens b (get_or b 0 0) 2 (2 + get_or b 1 0)
-opens_short [] h byte k l = absurd (omega arith)
-opens_short (t ∷ x) h byte k l = opens_from (t ∷ x) (get_or x 0 0) 1 (omega arith) byte (begins_short x (omega arith) k) l
+pub opens_from : (b : List ℕ) (v k : ℕ) → 0 < length b → get_or b 0 0 < 256 → Begins (drop 1 b) v k → v ≤ length (drop k (drop 1 b)) → (o : Opening) → o.tag ≡ get_or b 0 0 → o.contents.now ≡ take v (drop k (drop 1 b)) → o.behind.now ≡ drop v (drop k (drop 1 b)) → Opens b o
+opens_from [] v k some byte h fits o tag contents behind = absurd (omega arith)
+opens_from (t ∷ x) v k some byte h fits o tag contents behind =
+    let whole = frame t v (drop k x) (t ∷ x) fits (ap (λ y. t ∷ y) h.is) in
+    record {
+      byte = omega (arith, tag);
+      fits = omega (arith, ap length contents, length-take-le v (drop k x) fits, h.limit);
+      is = whole ∙ sym (λ i. framed (tag i) (contents i) ++ behind i);
+    }
 
 -- fewer than two bytes
 pub shut_few : (b : List ℕ) → length b < 2 → Shut b
@@ -59,25 +51,21 @@ shut_long (t ∷ x) v k h g l =
 pub length_behind : (b : List ℕ) → ((i : ℕ) → get_or b i 0 < 256) → (r : Option Length) → r ≡ front_length (take (length b - 1) (drop 1 b)) → LengthAt (drop 1 b) r
 length_behind b h r e = subst (LengthAt (drop 1 b)) (sym (e ∙ ap front_length (take_rest b 1))) (reads_length (drop 1 b) (λ i. rw get_or-drop (h (1 + i))))
 
--- the first element as parts of the bytes: all of it, its contents, and what is behind it
-pub record Parts (b : List ℕ) (t s e : ℕ) : Type 0 where
-  pub whole : take (e - 0) b ≡ framed t (take (e - s) (drop s b))
-  pub front : b ≡ take (e - 0) b ++ take (length b - e) (drop e b)
-  pub size : length (take (e - 0) b) ≡ e
-  pub inner : length (take (e - s) (drop s b)) ≡ e - s
-  pub left : length (take (length b - e) (drop e b)) ≡ length b - e
+-- the first element as it is written: all but what is behind it
+pub record Whole (b : List ℕ) (o : Opening) : Type 0 where
+  pub whole : take (length b - length o.behind.now) b ≡ framed o.tag o.contents.now
+  pub front : b ≡ take (length b - length o.behind.now) b ++ o.behind.now
+  pub size : length (take (length b - length o.behind.now) b) + length o.behind.now ≡ length b
+  pub header : 2 + length o.contents.now ≤ length (take (length b - length o.behind.now) b)
 
-pub parts : (b : List ℕ) (t s e : ℕ) → Opens b t s e → Parts b t s e
-parts b t s e o =
-    let element = framed t (take (e - s) (drop s b)) in
-    let same : e - 0 ≡ e = omega arith in
-    let left : length (drop e b) ≡ length b - e = length-drop e b in
-    let long : length element ≡ e = omega (arith, o.within, ap length o.is, length-append element (drop e b)) in
-    let whole : take (e - 0) b ≡ element = ap (λ n. take n b) same ∙ ap (take e) o.is ∙ take_at element (drop e b) e long in
+pub whole_of : (b : List ℕ) (o : Opening) → Opens b o → Whole b o
+whole_of b o h =
+    let element = framed o.tag o.contents.now in
+    let long = ap length h.is ∙ length-append element o.behind.now in
+    let whole : take (length b - length o.behind.now) b ≡ element = ap (take (length b - length o.behind.now)) h.is ∙ take_at element o.behind.now (length b - length o.behind.now) (omega (arith, long)) in
     record {
       whole = whole;
-      front = rw (take_rest b e) (o.is ∙ ap (λ l. l ++ drop e b) (sym whole));
-      size = ap length whole ∙ long;
-      inner = length-take-le (e - s) (drop s b) (omega (arith, length-drop s b, o.forward, o.within));
-      left = rw (take_rest b e) left;
+      front = h.is ∙ ap (λ l. l ++ o.behind.now) (sym whole);
+      size = omega (arith, ap length whole, long);
+      header = omega (arith, ap length whole, ap length h.is, long, framed_size o.tag o.contents.now o.behind.now);
     }

@@ -1,8 +1,8 @@
 // Bytes judged: whether they are a row of elements.
-ghost use Rattle.std.specs.Prelude.{ℕ, ◌-◌, ◌<◌, length, IfSome};
+ghost use Rattle.std.specs.Prelude.{◌-◌, ◌≤◌};
 ghost use Rattle.format.specs.Elements.{Readable};
 ghost use Rattle.element.specs.Judged.{Judged, deepest, longest};
-ghost use Rattle.element.specs.Openings.{Opened, Decides};
+ghost use Rattle.element.specs.Openings.{Opened};
 
 use length::Length;
 use progress::{Progress, ill_place};
@@ -13,17 +13,15 @@ pub struct Ill {
     pub at: usize,
 }
 
-// The first element of bytes: its tag, and from where to where its contents stand.
-// Numbers and no slices: whoever asks for an element's place adds them up.
+// The first element of bytes, and what is behind it.
 #[derive(Clone, Copy)]
-pub struct Opening {
+pub struct Opening<'a> {
     pub tag: u8,
-    pub start: usize,
-    pub end: usize,
+    pub contents: &'a [u8],
+    pub behind: &'a [u8],
 }
 
 // What is left of a row, and how many levels of constructed elements it may have.
-// A result and no parameter: of a slice within a struct it is not known that its items are bytes.
 #[derive(Clone, Copy)]
 struct Rest<'a> {
     bytes: &'a [u8],
@@ -34,7 +32,7 @@ struct Rest<'a> {
 pub fn judge(bytes: &[u8]) -> Result<(), Ill>
     ensures { Judged bytes.now result }
 {
-    if Reader::well_formed(bytes) {
+    if Reader::row(bytes) {
         return Ok(());
     }
     // None is not reached: the two readers agree.
@@ -53,125 +51,86 @@ impl Reader {
     pub const CONSTRUCTED: u8 = Progress::CONSTRUCTED;
 
     // The element at the front of the bytes.
-    pub fn open(bytes: &[u8]) -> Option<Opening>
+    pub fn open<'a>(bytes: &'a [u8]) -> Option<Opening<'a>>
         ensures { Opened bytes.now result }
     {
-        let [tag, behind @ ..] = bytes else {
+        // Two bytes at least: asked at once, for that is one test.
+        let [tag, _, ..] = bytes else {
             return None;
         };
-        let Length { value, size } = Length::read(behind)?;
-        let start = 1 + size;
-        if value > bytes.len() - start {
-            return None;
-        }
+        let Length { value, size } = Length::read(&bytes[1..])?;
+        let (contents, behind) = bytes[1 + size..].split_at_checked(value)?;
         Some(Opening {
             tag: *tag,
-            start,
-            end: start + value,
+            contents,
+            behind,
         })
     }
 
-    // Whether the bytes are a row. They are handed on as a part: passed on as they are, they would be copied first.
-    fn well_formed(bytes: &[u8]) -> bool
+    // Whether the bytes are a row.
+    pub fn row(bytes: &[u8]) -> bool
         ensures { Readable deepest longest bytes.now result }
     {
-        Reader::row(&bytes[0..], Reader::MAX_DEPTH)
+        Reader::levels(bytes, Reader::MAX_DEPTH)
+    }
+
+    // Whether the bytes are a row that can stand within a constructed element.
+    pub fn inner_row(bytes: &[u8]) -> bool
+        ensures { Readable (deepest - 1) longest bytes.now result }
+    {
+        Reader::levels(bytes, Reader::MAX_DEPTH - 1)
     }
 
     // Whether the bytes are a row with so many levels of constructed elements.
-    #[cycle(contents_row)]
-    pub fn row(bytes: &[u8], depth: usize) -> bool
+    fn levels(bytes: &[u8], depth: usize) -> bool
+        requires { depth ≤ deepest }
         ensures { Readable depth longest bytes.now result }
     {
-        let mut rest = bytes;
-        let mut left = depth;
-        while !rest.is_empty() {
-            if let Some(behind) = Reader::behind_short(rest) {
-                rest = behind;
-                continue;
-            }
-            let Some(Opening { tag, start, end }) = Reader::open(rest) else {
-                return false;
-            };
-            if tag < Reader::CONSTRUCTED {
-                rest = &rest[end..];
-                continue;
-            }
-            if left == 0 {
-                return false;
-            }
-            if end == rest.len() {
-                rest = &rest[start..];
-                left -= 1;
-                continue;
-            }
-            let behind = &rest[end..];
-            if !Reader::contents(&rest[start..end], left - 1) {
-                return false;
-            }
-            rest = behind;
-        }
-        true
-    }
-
-    // Whether the contents of a constructed element are a row: what needs no call is passed over first.
-    #[cycle(contents_row)]
-    fn contents(bytes: &[u8], depth: usize) -> bool
-        ensures { Readable depth longest bytes.now result }
-    {
-        let rest = Reader::advance(bytes, depth);
-        rest.bytes.is_empty() || Reader::row(rest.bytes, rest.depth)
-    }
-
-    // What is left behind the short primitives at the front, within a short constructed element that is the last too.
-    fn advance<'a>(bytes: &'a [u8], depth: usize) -> Rest<'a>
-        ensures { Decides depth bytes.now result.depth result.bytes.now }
-    {
-        let bytes = Reader::skip(bytes);
+        // What is behind the constructed elements that are gone into, the innermost last; of those with nothing behind, nothing.
+        let mut outer = [Rest {
+            bytes: &[],
+            depth: 0,
+        }; Reader::MAX_DEPTH];
+        let mut waiting = 0;
         let mut rest = Rest { bytes, depth };
-        while let Some(contents) = Reader::within_short(rest.bytes)
-            && rest.depth > 0
-        {
-            rest.bytes = Reader::skip(contents);
-            rest.depth -= 1;
-        }
-        rest
-    }
-
-    // What is left behind the short primitives at the front.
-    fn skip(bytes: &[u8]) -> &[u8]
-        ensures { (depth : ℕ) → Decides depth bytes.now depth result.now }
-    {
-        let mut rest = bytes;
-        while let Some(behind) = Reader::behind_short(rest) {
-            rest = behind;
-        }
-        rest
-    }
-
-    // What is within a short constructed element, if the bytes are one.
-    fn within_short(bytes: &[u8]) -> Option<&[u8]>
-        ensures { (depth : ℕ) → 0 < depth → IfSome result (λ contents. Decides depth bytes.now (depth - 1) contents.now) }
-    {
-        match bytes {
-            [tag, size, contents @ ..]
-                if *tag >= Reader::CONSTRUCTED
-                    && *size < Length::SHORT
-                    && usize::from(*size) == contents.len() => Some(contents),
-            _ => None,
-        }
-    }
-
-    // What is behind a short primitive, if one stands at the front.
-    fn behind_short(bytes: &[u8]) -> Option<&[u8]>
-        ensures { (depth : ℕ) → IfSome result (λ behind. (length behind.now < length bytes.now) × Decides depth bytes.now depth behind.now) }
-    {
-        match bytes {
-            [tag, size, behind @ ..]
-                if *tag < Reader::CONSTRUCTED
-                    && *size < Length::SHORT
-                    && usize::from(*size) <= behind.len() => Some(&behind[usize::from(*size)..]),
-            _ => None,
+        loop {
+            match Reader::open(rest.bytes) {
+                Some(Opening { tag, behind, .. }) if tag < Reader::CONSTRUCTED => {
+                    rest.bytes = behind;
+                }
+                Some(
+                    Opening {
+                        contents,
+                        behind,
+                        ..
+                    },
+                ) => {
+                    if rest.depth == 0 {
+                        return false;
+                    }
+                    if !behind.is_empty() {
+                        outer[waiting] = Rest {
+                            bytes: behind,
+                            depth: rest.depth,
+                        };
+                        waiting += 1;
+                    }
+                    rest = Rest {
+                        bytes: contents,
+                        depth: rest.depth - 1,
+                    };
+                }
+                None => {
+                    if !rest.bytes.is_empty() {
+                        return false;
+                    }
+                    if waiting == 0 {
+                        return true;
+                    }
+                    waiting -= 1;
+                    rest = outer[waiting];
+                }
+            }
         }
     }
 }

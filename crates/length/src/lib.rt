@@ -30,7 +30,7 @@ impl Length {
             return None;
         };
         match (*first, behind) {
-            (short @ ..Length::SHORT, _) => Some(Length {
+            (short, _) if short < Length::SHORT => Some(Length {
                 value: usize::from(short),
                 size: 1,
             }),
@@ -38,10 +38,16 @@ impl Length {
                 value: usize::from(*value),
                 size: 2,
             }),
-            (Length::TWO_BYTES, [high, low, ..]) if *high != 0 => Some(Length {
-                value: usize::from(u16::from_be_bytes([*high, *low])),
-                size: 3,
-            }),
+            (Length::TWO_BYTES, [high, low, ..]) => {
+                let value = u16::from_be_bytes([*high, *low]);
+                if value <= u16::from(u8::MAX) {
+                    return None;
+                }
+                Some(Length {
+                    value: usize::from(value),
+                    size: 3,
+                })
+            }
             _ => None,
         }
     }

@@ -67,17 +67,21 @@ impl<'a> Iterator for Cursor<'a> {
 
     // The next element of the row.
     fn next(&mut self) -> Option<Element<'a>> {
-        let rest = self.rest;
+        let Opening {
+            tag,
+            contents,
+            behind,
+        } = Reader::open(self.rest)?;
         let at = self.at;
-        let Opening { tag, start, end } = Reader::open(rest)?;
-        self.rest = &rest[end..];
-        self.at = at + end;
+        let whole = &self.rest[..self.rest.len() - behind.len()];
+        self.rest = behind;
+        self.at += whole.len();
         Some(Element {
             tag,
-            contents: &rest[start..end],
-            whole: &rest[0..end],
+            contents,
+            whole,
             at,
-            contents_at: at + start,
+            contents_at: self.at - contents.len(),
         })
     }
 }

@@ -76,7 +76,7 @@ pub fn append_constructed(out: &mut Vec<u8>, tag: u8, row: &[u8]) -> Result<(), 
         return Err(WriteError::Tag);
     }
     // Contents that are too long are not read: they are refused for that.
-    if row.len() <= Reader::MAX_LENGTH && !Reader::row(row, Reader::MAX_DEPTH - 1) {
+    if row.len() <= Reader::MAX_LENGTH && !Reader::inner_row(row) {
         return Err(WriteError::Contents);
     }
     append_element(out, tag, row)
