@@ -194,10 +194,14 @@ fn random_row(t: &mut Trials, depth: usize) -> Vec<u8> {
     row
 }
 
-fn nested(depth: usize) -> Vec<u8> {
+// Elements within one another; behind each whose bit is set stands another.
+fn nested(depth: usize, behind: u64) -> Vec<u8> {
     let mut b = element(1, &[]);
-    for _ in 0..depth {
+    for level in 0..depth {
         b = element(200, &b);
+        if behind >> level & 1 == 1 {
+            b.extend(element(2, &[7]));
+        }
     }
     b
 }
@@ -239,7 +243,9 @@ fn bytes(t: &mut Trials) {
         t.check("one byte less", judge(&whole[..whole.len() - 1]), whole.len() as u64, &n);
     }
     for depth in 0..11 {
-        try_bytes(t, &nested(depth));
+        for behind in [0, u64::MAX, t.next(), t.next(), t.next(), t.next()] {
+            try_bytes(t, &nested(depth, behind));
+        }
     }
     for _ in 0..300 {
         let b: Vec<u8> = (0..t.below(12)).map(|_| [t.below(256), t.below(8), 128 + t.below(4)][t.below(3) as usize] as u8).collect();
@@ -248,7 +254,7 @@ fn bytes(t: &mut Trials) {
         try_paths(t, &b);
     }
     for i in 0..150 {
-        let mut b = random_row(t, 3);
+        let mut b = random_row(t, 9);
         try_bytes(t, &b);
         try_paths(t, &b);
         if i < 15 && b.len() < 300 {
