@@ -461,7 +461,8 @@ fn main() {
         std::process::exit(2);
     };
     println!("driver: seed {seed}");
-    let mut t = Trials { random: seed | 1, passed: 0, failed: 0 };
+    // Nought would draw noughts for ever.
+    let mut t = Trials { random: (seed ^ 0x9E37_79B9_7F4A_7C15).max(1), passed: 0, failed: 0 };
     bytes(&mut t);
     chains(&mut t);
     rejections(&mut t);
