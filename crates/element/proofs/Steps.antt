@@ -47,7 +47,7 @@ unfolding Verdict
 by_itself r true h = h.0
 by_itself r false h = ⊎_elim (λ k. k) absurd h
 
--- rows of bytes, of which each has at most so many levels as are left below the depth, from place k on
+-- rows of bytes; the one at place i, counted from k on, has at most depth - i levels
 unfoldable pub Fit : (depth k : ℕ) → List Rest → Type 0
 Fit d k [] = zero ≡ zero
 Fit d k (r ∷ rs) = (k + r.depth ≤ d) × (all_bytes r.bytes.now ≡ true) × Fit d (k + 1) rs
@@ -70,7 +70,7 @@ all_bytes_both a b h = (
 )
 
 module _ (b : List ℕ) (o : Opening) (h : Opens b o) where
-  -- the parts of bytes are bytes
+  -- the contents of an element of bytes, and what is behind it, are bytes
   parts_bytes : all_bytes b ≡ true → all_bytes (o.contents.now ++ o.behind.now) ≡ true
   parts_bytes bytes =
       let header = 1 + length (written_length (length o.contents.now)) in
