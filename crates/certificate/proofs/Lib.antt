@@ -1,1 +1,4 @@
-pub mod Tests
+pub mod Digits
+pub mod Laws
+pub mod Tails
+pub mod Wholes

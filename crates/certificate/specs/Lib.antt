@@ -1,4 +1,4 @@
-pub mod Sixes
-pub mod Rejections
-pub mod Places
-pub mod Inputs
+pub mod Fields
+pub mod Numbers
+pub mod Permits
+pub mod Promise

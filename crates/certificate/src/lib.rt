@@ -1,64 +1,70 @@
-// Certificates as six numbers each: which pool they are, and what is rejected.
+// Permits: the bytes of a certificate, and the certificate that bytes say.
 #![tactic(auto)]
 
 ghost use Rattle.std.specs.Prelude.{◌≡◌};
-ghost use Rattle.certificate.specs.Rejections.{number};
+ghost use Rattle.certificate.specs.Permits.{tag_of};
+ghost use Rattle.certificate.specs.Promise.{OnePermit, PermitReads, DecodesBack};
 
-mod checks;
-mod places;
+mod numbering;
+mod reading;
+mod writing;
 
-// The most certificates that are taken.
-pub const MOST: usize = 200;
+pub use reading::decode;
+pub use writing::encode;
 
-// How many numbers a certificate has.
-pub const SIX: usize = 6;
-
-// Where each of a certificate's numbers stands: the order is that of the C interface.
-pub const SUBJECT: usize = 0;
-
-pub const ISSUER: usize = 1;
-
-pub const NOT_BEFORE: usize = 2;
-
-pub const NOT_AFTER: usize = 3;
-
-pub const MAY_ISSUE: usize = 4;
-
-pub const PATH_LEN: usize = 5;
-
-// The mark that says yes, and the largest mark that there is: marks are bytes at the C interface.
-pub const YES: u8 = 1;
-
-// What is handed in of a pool, not yet checked: how many certificates, six numbers each, a signature mark for each two and an anchor mark for each.
-// C hands in the count by itself, and it may not fit the lists.
-#[derive(Clone, Copy)]
-pub struct PoolInput<'a> {
-    pub count: u64,
-    pub certificates: &'a [u32],
-    pub signatures: &'a [u8],
-    pub anchors: &'a [u8],
-}
-
-// Why an input is rejected; each reason has the number by which it is known.
+// What a permit says.
 #[derive(Clone, Copy, PartialEq, Eq, Debug)]
-pub enum Rejection {
-    // No certificate, too many, not six numbers each, or a mark of who may issue above 1.
-    Certificates = 1,
-    // Not a signature mark for each two certificates, not an anchor mark for each, or one above 1.
-    Marks = 2,
-    // The certificate asked about is not there.
-    Unknown = 3,
-    // The output buffer has not a number for each certificate.
-    Buffer = 4,
-    // A line of text can't be read.
-    Line = 5,
+pub struct Certificate {
+    pub subject: u32,
+    pub issuer: u32,
+    pub not_before: u32,
+    pub not_after: u32,
+    pub may_issue: bool,
+    pub path_len: u32,
 }
 
-impl Rejection {
-    // The number by which the rejection is known: a method, since contracts and C speak of it by this name.
-    pub fn number(self) -> u8
-        ensures { result ≡ number self }
-    {
-        self as u8
+impl Certificate {
+    // The tag of the element that is a permit.
+    pub const PERMIT: u8 = 128;
+}
+
+// The fields of a permit, in their order, by their tags.
+#[derive(Clone, Copy, PartialEq, Eq, Debug)]
+pub enum Tag {
+    Subject = 1,
+    Issuer = 2,
+    NotBefore = 3,
+    NotAfter = 4,
+    MayIssue = 5,
+    PathLen = 6,
+}
+
+impl From<Tag> for u8 {
+    ghost from_gives = { λ tag byte. byte ≡ tag_of tag };
+
+    // The byte that a tag is.
+    fn from(tag: Tag) -> u8 {
+        tag as u8
     }
+}
+
+// Bytes are the permit of one certificate or of none.
+pub fn one_permit_stands() -> u8
+    ensures { OnePermit }
+{
+    0
+}
+
+// A permit is well-formed, and reads as its row.
+pub fn permit_reads_stands() -> u8
+    ensures { PermitReads }
+{
+    0
+}
+
+// What decoding answers of the bytes of a certificate is that certificate.
+pub fn decodes_back_stands() -> u8
+    ensures { DecodesBack }
+{
+    0
 }

@@ -1,2 +1,10 @@
+pub mod Gone
 pub mod Openings
+pub mod Places
+pub mod Resting
+pub mod Rooms
+pub mod Runs
+pub mod Standing
 pub mod Steps
+pub mod Turns
+pub mod Walks

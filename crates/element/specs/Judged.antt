@@ -2,7 +2,7 @@
 use Rattle.std.specs.Prelude.{ℕ, List, Ok, Err, Result}
 use Rattle.format.specs.Elements.{Row, Reads}
 use Rattle.format.specs.Viable.{IllAt}
-pub use Rattle.progress.specs.Limits.{deepest, longest}
+pub use Rattle.element.specs.Limits.{deepest, longest}
 use Rattle.element.specs.declared.judging.Ill.{Ill}
 
 -- well exactly if the bytes read as a row of elements, else ill at the place where they are malformed

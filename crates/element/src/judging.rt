@@ -4,8 +4,9 @@ ghost use Rattle.format.specs.Elements.{Readable};
 ghost use Rattle.element.specs.Judged.{Judged, deepest, longest};
 ghost use Rattle.element.specs.Openings.{Opened};
 
+use crate::progress::Progress;
+use crate::progress::stepping::ill_place;
 use length::Length;
-use progress::{Progress, ill_place};
 
 // The place of malformed bytes: the first byte after which no bytes behind could make them a row, or how many there are.
 #[derive(Clone, Copy, PartialEq, Eq, Debug)]

@@ -1,9 +1,9 @@
 -- The numbers by which the answers cross into C. Assumes nothing: these are definitions.
 use Rattle.std.specs.Prelude.{ℕ, ◌+◌, Some, None, Option, Ok, Err, Result}
-use Rattle.certificate.specs.Rejections.{number}
-use Rattle.certificate.specs.declared.Rejection.{Rejection}
+use Rattle.chain.specs.Rejections.{number}
+use Rattle.chain.specs.declared.input.Rejection.{Rejection}
 use Rattle.element.specs.declared.judging.Ill.{Ill}
-use Rattle.path.specs.declared.paths.Span.{Span}
+use Rattle.element.specs.declared.paths.Span.{Span}
 use Rattle.gate.specs.declared.Part.{Part}
 use Rattle.gate.specs.declared.ChainAnswer.{ChainAnswer}
 

@@ -2,17 +2,16 @@
 #![tactic(auto)]
 
 ghost use Rattle.std.specs.Prelude.{◌≡◌, ℕ, Option, Result};
-ghost use Rattle.path.specs.declared.paths.Span.{Span as Place};
-ghost use Rattle.certificate.specs.declared.Rejection.{Rejection as Why};
+ghost use Rattle.element.specs.declared.paths.Span.{Span as Place};
+ghost use Rattle.chain.specs.declared.input.Rejection.{Rejection as Why};
 ghost use Rattle.element.specs.declared.judging.Ill.{Ill as IllAt};
 ghost use Rattle.element.specs.Judged.{Judged};
-ghost use Rattle.path.specs.Located.{Located};
+ghost use Rattle.element.specs.Located.{Located};
 ghost use Rattle.shortest.specs.Answers.{Answers};
 ghost use Rattle.gate.specs.Numbers.{verdict_number, span_part, answer_numbers};
 
-use certificate::PoolInput;
-use element::Ill;
-use path::locate;
+use chain::PoolInput;
+use element::{Ill, locate};
 use shortest::find_chain;
 
 // A part of the bytes, in numbers of C: where it begins, and how many bytes it has. C has no option: none is a part of none.

@@ -1,12 +1,10 @@
 // The program `permit`: reads a text of papers, marks and questions, and answers it line by line.
-#![tactic(auto)]
-
 use anyhow::anyhow;
 use session::Book;
 use std::io::{BufWriter, Read, Write};
 use std::process::ExitCode;
 use std::{env, fs};
-use tokens::Lines;
+use text::Lines;
 
 const VERSION: &str = "permit, proved with rattle-kit-13f logic dac8208d650f15bf\n";
 

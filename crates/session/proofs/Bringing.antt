@@ -3,7 +3,7 @@ use Rattle.std.proofs.Common.{◌≡◌, ℕ, List, [], ◌∷◌, ◌++◌, Opt
 use Rattle.std.specs.List.{flat_map}
 use Rattle.trust.specs.Chains.{Certificate}
 use Rattle.text.specs.Meaning.{Says, meaning}
-use Rattle.tokens.specs.Pieces.{lines}
+use Rattle.text.specs.Tokens.{lines}
 use Rattle.session.specs.Books.{Brought, no_more, added, brings, brought, six, Permit, Numbers, all, permit, end}
 
 -- what is noted and what the rest of a text brings is what the text brings

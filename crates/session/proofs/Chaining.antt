@@ -1,11 +1,11 @@
 -- The answer to a question about a chain, from what the search answers. Assumes nothing.
 use Rattle.std.proofs.Common.{◌≡◌, ℕ, ◌<◌, List, [], map, length, take, slice_index_or, vec_items, vec_len, Vec, Some, None, Ok, Err, Option, Result, sym, ap, ◌∙◌, subst, arith}
 use Rattle.std.proofs.lemmas.List.{get_or-map, length-map}
-use Rattle.certificate.specs.Rejections.{number}
-use Rattle.certificate.specs.declared.Rejection.{Rejection}
+use Rattle.chain.specs.Rejections.{number}
+use Rattle.chain.specs.declared.input.Rejection.{Rejection}
 use Rattle.shortest.specs.Answers as search
 use Rattle.shortest.specs.Places.{Place}
-use Rattle.message.specs.Texts.{chain_text, none_text, refusal_text}
+use Rattle.text.specs.Texts.{chain_text, none_text, refusal_text}
 use Rattle.session.specs.Books.{Brought}
 use Rattle.session.specs.Answers.{lent, ChainAnswer, shortest, none, refused}
 

@@ -1,4 +1,4 @@
-pub mod Showing
 pub mod Bringing
-pub mod Putting
 pub mod Chaining
+pub mod Putting
+pub mod Showing

@@ -1,6 +1,6 @@
 -- An answer put behind bytes, from its text put there. Assumes nothing.
 use Rattle.std.proofs.Common.{◌≡◌, ℕ, List, ◌++◌, OnOk, Ok, Err, Result}
-use Rattle.message.specs.Texts.{Begins, Appends}
+use Rattle.text.specs.Texts.{Begins, Appends}
 use Rattle.session.specs.Answers.{Puts}
 
 module _ {T E : Type 0} (A : List ℕ → Type 0) (r : Result T E) (old text new : List ℕ) where

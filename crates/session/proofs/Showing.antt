@@ -4,14 +4,14 @@ use Rattle.format.specs.Elements.{Row, empty, primitive, constructed, framed, wr
 use Rattle.format.proofs.Fronts.{same_front}
 use Rattle.format.proofs.Rows.{primitive_parts, constructed_parts, framed_size}
 use Rattle.format.proofs.Walks.{stop}
-use Rattle.path.specs.Cursors.{ahead, Passes, Next}
-use Rattle.path.proofs.Walks.{split, same_end}
+use Rattle.element.specs.Cursors.{ahead, Passes, Next}
+use Rattle.element.proofs.Walks.{split, same_end}
 use Rattle.element.specs.Judged.{longest}
-use Rattle.path.specs.declared.walking.Cursor.{Cursor}
-use Rattle.path.specs.declared.walking.Element.{Element}
+use Rattle.element.specs.declared.walking.Cursor.{Cursor}
+use Rattle.element.specs.declared.walking.Element.{Element}
 use Rattle.element.proofs.Openings.{front_of}
 use Rattle.std.proofs.lemmas.Bool.{false≢true}
-use Rattle.message.specs.Texts.{element_text, Begins}
+use Rattle.text.specs.Texts.{element_text, Begins}
 use Rattle.session.specs.Rows.{row_text}
 
 -- the text of a row whose bytes begin with a primitive element, or with a constructed one

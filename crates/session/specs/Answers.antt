@@ -3,16 +3,16 @@ use Rattle.std.specs.Prelude.{◌≡◌, ℕ, ◌<◌, ◌≤◌, min, List, [],
 use Rattle.format.specs.Elements.{Row, Reads}
 use Rattle.format.specs.Viable.{IllAt}
 use Rattle.element.specs.Judged.{deepest, longest}
-use Rattle.path.specs.Located.{Piece}
+use Rattle.element.specs.Located.{Piece}
 use Rattle.trust.specs.Chains.{Pool, Chain, Shortest}
-use Rattle.certificate.specs.Rejections.{number}
-use Rattle.certificate.specs.Sixes.{most, pool}
-use Rattle.certificate.specs.declared.Rejection.{Rejection}
-use Rattle.certificate.specs.declared.Rejection.TheVariants.{Unknown, Line}
+use Rattle.chain.specs.Rejections.{number}
+use Rattle.chain.specs.Sixes.{most, pool}
+use Rattle.chain.specs.declared.input.Rejection.{Rejection}
+use Rattle.chain.specs.declared.input.Rejection.TheVariants.{Unknown, Line}
 use Rattle.shortest.specs.Answers.{rejected_by}
 use Rattle.shortest.specs.Places.{Place}
 use Rattle.text.specs.Meaning.{Says, nothing, paper, seals, trusted, piece, chain}
-use Rattle.message.specs.Texts.{bytes_text, chain_text, none_text, ill_text, refusal_text, Begins}
+use Rattle.text.specs.Texts.{bytes_text, chain_text, none_text, ill_text, refusal_text, Begins}
 use Rattle.session.specs.Books.{Brought}
 use Rattle.session.specs.Rows.{row_text}
 

@@ -2,10 +2,10 @@
 use Rattle.std.specs.Prelude.{◌≡◌, ℕ, cond, List, [], ◌∷◌, ◌++◌, length, map, Some, None, vec_items, Option}
 use Rattle.std.specs.List.{flat_map}
 use Rattle.trust.specs.Chains.{Certificate}
-use Rattle.encoding.specs.Permits.{permit_bytes, InRange}
+use Rattle.certificate.specs.Permits.{permit_bytes, InRange}
 use Rattle.text.specs.Meaning.{Says, nothing, paper, seals, trusted, piece, chain, meaning}
-use Rattle.tokens.specs.Pieces.{lines}
-use Rattle.certificate.specs.declared.PoolInput.{PoolInput}
+use Rattle.text.specs.Tokens.{lines}
+use Rattle.chain.specs.declared.input.PoolInput.{PoolInput}
 use Rattle.session.specs.declared.Book.{Book}
 
 -- papers, marks of seals and marks of trusted papers

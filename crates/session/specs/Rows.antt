@@ -1,7 +1,7 @@
 -- The printed elements of a row. Assumes nothing: these are definitions.
 use Rattle.std.specs.Prelude.{ℕ, ◌+◌, List, [], ◌++◌, Some, None}
 use Rattle.format.specs.Elements.{Row, empty, primitive, constructed}
-use Rattle.message.specs.Texts.{element_text}
+use Rattle.text.specs.Texts.{element_text}
 
 -- the elements of a row, one a line, and those within each below it and one level further in
 unfoldable pub row_text : (level : ℕ) → Row → List ℕ

@@ -1,20 +1,21 @@
 // The answers to lines.
 ghost use Rattle.std.specs.Prelude.{◌≡◌, length};
-ghost use Rattle.certificate.specs.Rejections.{number};
+ghost use Rattle.chain.specs.Rejections.{number};
 ghost use Rattle.text.specs.Meaning.{meaning};
-ghost use Rattle.message.specs.Texts.{Appends, refusal_text};
+ghost use Rattle.text.specs.Texts.{Appends, refusal_text};
 ghost use Rattle.session.specs.Answers.{lent, PaperAnswer, PieceAnswer, ChainAnswer, Answered, Puts};
 ghost use Rattle.session.specs.Books.{Brought, InputOf, held};
 
 use crate::Book;
 use crate::rows::append_row;
-use certificate::{MOST, PoolInput, Rejection};
-use element::{Ill, judge};
-use message::{append_bytes, append_chain, append_ill, append_none, append_refusal};
-use path::{Cursor, piece};
+use chain::{MOST, PoolInput, Rejection};
+use element::{Cursor, Ill, judge, piece};
 use shortest::{find_chain, rejection_place};
 use std::alloc::{AllocError, Global};
-use text::{Command, LineError, read_line};
+use text::{
+    Command, LineError, append_bytes, append_chain, append_ill, append_none, append_refusal,
+    read_line,
+};
 
 // The elements of a paper, or the place at which its bytes are malformed.
 fn answer_paper(bytes: &[u8], out: &mut Vec<u8>) -> Result<(), AllocError>

@@ -1,9 +1,9 @@
 // The numbers of the papers that are permits.
 ghost use Rattle.std.specs.Prelude.{◌≡◌, ◌++◌, map, IfOk, vec_items, OnOk};
-ghost use Rattle.encoding.specs.Permits.{certificate_of};
+ghost use Rattle.certificate.specs.Permits.{certificate_of};
 ghost use Rattle.session.specs.Books.{six, Numbers};
 
-use encoding::{Certificate, decode};
+use certificate::{Certificate, decode};
 use std::alloc::{AllocError, Global};
 
 // Puts a certificate's six numbers behind the others.

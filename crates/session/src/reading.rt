@@ -6,8 +6,7 @@ ghost use Rattle.session.specs.Books.{no_more, added, brings, held, BookOf};
 use crate::Book;
 use crate::numbering::numbers_of;
 use std::alloc::{AllocError, Global};
-use text::{Command, LineError, read_line};
-use tokens::Lines;
+use text::{Command, LineError, Lines, read_line};
 
 impl Book {
     // A book of nothing.

@@ -1,14 +1,14 @@
 // The elements of a row, printed.
 ghost use Rattle.std.specs.Prelude.{◌≡◌, ℕ, ◌+◌, ◌^◌, ◌<◌, ◌++◌, length, OnOk};
 ghost use Rattle.format.specs.Elements.{Row, Reads};
-ghost use Rattle.path.specs.Cursors.{PlacesFit, ahead};
+ghost use Rattle.element.specs.Cursors.{PlacesFit, ahead};
 ghost use Rattle.element.specs.Judged.{longest};
-ghost use Rattle.message.specs.Texts.{Begins};
+ghost use Rattle.text.specs.Texts.{Begins};
 ghost use Rattle.session.specs.Rows.{row_text};
 
-use message::append_element;
-use path::Cursor;
+use element::Cursor;
 use std::alloc::AllocError;
+use text::append_element;
 
 // The elements ahead, one a line, and those within each below it and one level further in.
 pub(crate) fn append_row(

@@ -6,8 +6,8 @@ use Rattle.element.specs.Judged.{deepest, longest}
 use Rattle.trust.specs.Chains.{Extends}
 use Rattle.trust.proofs.Means.{more_keeps}
 use Rattle.trust.proofs.Shortest.{chain_or_none}
-use Rattle.certificate.specs.Sixes.{certificate_at, pool}
-use Rattle.certificate.specs.declared.Rejection.{Rejection}
+use Rattle.chain.specs.Sixes.{certificate_at, pool}
+use Rattle.chain.specs.declared.input.Rejection.{Rejection}
 use Rattle.shortest.specs.Promise.{Promise, Grows, MoreAnswers}
 
 pub promise : Promise

@@ -1,5 +1,5 @@
-pub mod Laying
 pub mod Ends
 pub mod Follows
 pub mod Growth
+pub mod Laying
 pub mod Steps

@@ -2,7 +2,7 @@
 use Rattle.std.specs.Prelude.{◌≡◌, ℕ, ◌+◌, ◌<◌, Bool, ◌&&◌, List, nat_le, slice_index_or}
 use Rattle.trust.specs.Chains.{Pool, Chain, holds}
 use Rattle.trust.specs.Layers.{Layers, Top}
-use Rattle.pool.specs.Views.{view_pool}
+use Rattle.chain.specs.Views.{view_pool}
 use Rattle.chain.specs.Known.{issues_known}
 use Rattle.shortest.specs.declared.query.Query.{Query}
 use Rattle.shortest.specs.declared.reached.Reached.{Reached}

@@ -4,8 +4,8 @@ use Rattle.format.specs.Promise.{OneReadingAt}
 use Rattle.element.specs.Judged.{deepest, longest}
 use Rattle.trust.specs.Chains.{Chain}
 use Rattle.trust.specs.Promise.{ChainOrNone}
-use Rattle.certificate.specs.Sixes.{pool}
-use Rattle.certificate.specs.declared.Rejection.{Rejection}
+use Rattle.chain.specs.Sixes.{pool}
+use Rattle.chain.specs.declared.input.Rejection.{Rejection}
 use Rattle.shortest.specs.Answers.{Answers, rejected_by}
 
 -- the promise, in two halves: all bytes are one row of elements or malformed, and from each certificate there is a shortest chain or none at all

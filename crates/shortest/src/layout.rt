@@ -1,6 +1,6 @@
 // A chain laid out into the output buffer.
 ghost use Rattle.std.specs.Prelude.{ℕ, ◌<◌, ◌≤◌, length, slice_index};
-ghost use Rattle.certificate.specs.Sixes.{most};
+ghost use Rattle.chain.specs.Sixes.{most};
 ghost use Rattle.shortest.specs.LaidOut.{LaidOut};
 ghost use Rattle.shortest.specs.Steps.{from};
 

@@ -2,12 +2,11 @@
 #![tactic(auto)]
 
 ghost use Rattle.std.specs.Prelude.{◌≡◌, length, MatchOption};
-ghost use Rattle.pool.specs.Views.{view_pool};
+ghost use Rattle.chain.specs.Views.{view_pool};
 ghost use Rattle.shortest.specs.Answers.{Answers, Written};
 ghost use Rattle.shortest.specs.Kept.{NoneUp};
 
-use certificate::{PoolInput, Rejection};
-use pool::PoolView;
+use chain::{PoolInput, PoolView, Rejection};
 
 mod layout;
 mod place;

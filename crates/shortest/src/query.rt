@@ -1,8 +1,8 @@
 // What is asked.
 ghost use Rattle.std.specs.Prelude.{◌<◌};
-ghost use Rattle.pool.specs.Views.{view_pool};
+ghost use Rattle.chain.specs.Views.{view_pool};
 
-use pool::PoolView;
+use chain::PoolView;
 
 mod asking;
 

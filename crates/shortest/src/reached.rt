@@ -1,5 +1,5 @@
 // Which certificates have been reached.
-use certificate::MOST;
+use chain::MOST;
 
 mod climbing;
 

@@ -4,14 +4,14 @@ use Rattle.std.specs.List.{flat_map}
 use Rattle.std.specs.Char.{digit_char as digitChar}
 use Rattle.std.proofs.lemmas.Fmt.{decimal_by_steps, decimal_nonempty}
 use Rattle.std.proofs.lemmas.Bool.{le-leb, lt-leb, lt-ltb, le-ltb, ne_eqb, and_from, and_right, or_from, cases_lt}
-use Rattle.tokens.specs.Pieces.{blank, words}
+use Rattle.text.specs.Tokens.{blank, words}
 use Rattle.text.specs.Figures.{both, digit, with_digit, decimal_after, below, hex_digit, word_bytes, bytes_of}
 use Rattle.text.specs.Meaning.{number_limit}
-use Rattle.message.specs.Texts.{blank_before, hex_text, spaced}
-use Rattle.tokens.specs.Promise.{WordEnds}
+use Rattle.text.specs.Texts.{blank_before, hex_text, spaced}
+use Rattle.text.specs.Promise.{WordEnds}
 use Rattle.text.specs.Promise.{Bytes, FiguresStand}
-use Rattle.tokens.proofs.Cuts.{words_nil}
-use Rattle.tokens.proofs.Laws.{past_blank, word_in_front}
+use Rattle.text.proofs.Cuts.{words_nil}
+use Rattle.text.proofs.Laws.{past_blank, word_in_front}
 use Rattle.text.proofs.Values.{below_some, number_some}
 
 -- a digit more behind

@@ -1,2 +1,5 @@
-pub mod Values
 pub mod Again
+pub mod Cuts
+pub mod Laws
+pub mod Values
+pub mod Written

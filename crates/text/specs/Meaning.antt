@@ -2,7 +2,7 @@
 use Rattle.std.specs.Prelude.{ℕ, ◌^◌, Bool, cond, List, [], ◌∷◌, Some, None, vec_items, codes, Option, ◌==◌, slice_index}
 use Rattle.std.specs.Option.{option_map}
 use Rattle.std.specs.Str.{bytes_eq}
-use Rattle.tokens.specs.Pieces.{words}
+use Rattle.text.specs.Tokens.{words}
 use Rattle.text.specs.Figures.{both, number, numbers, bytes_of}
 use Rattle.text.specs.declared.command.Command.{Command}
 use Rattle.text.specs.declared.command.Command.TheVariants as command

@@ -3,12 +3,12 @@ ghost use Rattle.std.specs.Prelude.{◌≡◌};
 ghost use Rattle.std.specs.Option.{option_map};
 ghost use Rattle.text.specs.Meaning.{key_of, only_number, day_of, chain_of, piece_of, words_say, meaning, says};
 ghost use Rattle.text.specs.Reading.{ReadsAs};
-ghost use Rattle.tokens.specs.Pieces.{words as words_of};
+ghost use Rattle.text.specs.Tokens.{words as words_of};
 
 use crate::error::LineError;
 use crate::figures::{parse_number, read_bytes, read_marks, read_numbers};
+use crate::tokens::Words;
 use std::alloc::Global;
-use tokens::Words;
 
 // What a line says.
 #[derive(Drop)]

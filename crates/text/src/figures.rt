@@ -6,11 +6,11 @@ ghost use Rattle.std.specs.Fn.{FnReturnsAt};
 ghost use Rattle.text.specs.Figures.{below, with_digit, number, hex_digit, hex_pair, word_bytes, bytes_of, numbers, all_of};
 ghost use Rattle.text.specs.Meaning.{mark_limit, number_limit};
 ghost use Rattle.text.specs.Reading.{ReadsAs};
-ghost use Rattle.tokens.specs.Pieces.{words as words_of};
+ghost use Rattle.text.specs.Tokens.{words as words_of};
 
 use crate::error::LineError;
+use crate::tokens::Words;
 use std::alloc::Global;
-use tokens::Words;
 
 // A number with a digit behind it.
 fn push_digit(n: u64, b: u8) -> Option<u64>

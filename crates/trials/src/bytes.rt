@@ -1,8 +1,7 @@
 // Strings of bytes: what is said of them, against a plain reader.
 use crate::draws::Draws;
 use crate::tally::Tally;
-use element::{Ill, judge};
-use path::piece;
+use element::{Ill, judge, piece};
 
 // A short string has at most so many bytes.
 const LONGEST: usize = 12;

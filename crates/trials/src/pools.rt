@@ -1,9 +1,7 @@
 // Pools of certificates: the chain that is found, against all chains.
 use crate::draws::Draws;
 use crate::tally::Tally;
-use certificate::PoolInput;
-use chain::judge_chain;
-use pool::PoolView;
+use chain::{PoolInput, PoolView, judge_chain};
 use shortest::find_chain;
 use std::array;
 

@@ -1,6 +1,6 @@
-pub mod Numbers
-pub mod Ways
-pub mod Shortest
-pub mod Means
-pub mod Layers
 pub mod Found
+pub mod Layers
+pub mod Means
+pub mod Numbers
+pub mod Shortest
+pub mod Ways

@@ -1,8 +1,8 @@
 use Rattle.std.proofs.Common.{sym, refl, ap, ◌∙◌}
 use Rattle.trust.specs.Chains.{holds}
 use Rattle.trust.proofs.Found.{not_held}
-use Rattle.certificate.specs.Sixes.{most}
-use Rattle.pool.proofs.Members.{said_at}
+use Rattle.chain.specs.Sixes.{most}
+use Rattle.chain.proofs.Members.{said_at}
 use Rattle.shortest.proofs.Ends.{started, written}
 use Rattle.shortest.specs.Steps.{far, from}
 use Rattle.shortest.proofs.find.Goals as goal

@@ -1,6 +1,6 @@
 // What a query asks of the certificates.
 ghost use Rattle.std.specs.Prelude.{◌≡◌, ◌<◌};
-ghost use Rattle.pool.specs.Views.{view_pool};
+ghost use Rattle.chain.specs.Views.{view_pool};
 ghost use Rattle.shortest.specs.Kept.{follows_known};
 
 use crate::query::Query;

@@ -1,13 +1,13 @@
 // The way up: those reached get their turns in the order in which they were reached, so layer by layer.
 ghost use Rattle.std.specs.Prelude.{◌≡◌, ℕ, ◌+◌, ◌<◌, false, replicate, MatchOption, slice_index, slice_set};
-ghost use Rattle.certificate.specs.Sixes.{most};
-ghost use Rattle.pool.specs.Views.{view_pool};
+ghost use Rattle.chain.specs.Sixes.{most};
+ghost use Rattle.chain.specs.Views.{view_pool};
 ghost use Rattle.shortest.specs.Kept.{Kept, Next, Topped, NoneUp};
 ghost use Rattle.shortest.specs.Steps.{far, from};
 
 use crate::query::Query;
 use crate::reached::{Reached, Step};
-use certificate::MOST;
+use chain::MOST;
 
 impl Reached {
     // Only the certificate that is asked about is reached.

@@ -1,5 +1,5 @@
 use Rattle.std.proofs.Common.{◌≡◌, ℕ, ◌<◌, List, length, slice_index_or, vec_len, Some, None, Option, ap, ◌∙◌, subst, arith}
-use Rattle.path.specs.Located.{Piece}
+use Rattle.element.specs.Located.{Piece}
 use Rattle.session.specs.Answers.{PieceAnswer, part_text, there, no_paper}
 use Rattle.session.specs.Books.{held}
 use Rattle.session.proofs.Chaining.{papers_count, paper_at}

@@ -1,8 +1,8 @@
 use Rattle.std.proofs.Common.{ℕ, List, length, take, vec_items, Some, None, Ok, Err, Option, Result, subst}
-use Rattle.certificate.specs.declared.Rejection.{Rejection}
+use Rattle.chain.specs.declared.input.Rejection.{Rejection}
 use Rattle.shortest.specs.Answers as search
 use Rattle.shortest.specs.Places.{Place}
-use Rattle.message.specs.Texts.{chain_text, Appends}
+use Rattle.text.specs.Texts.{chain_text, Appends}
 use Rattle.session.specs.Answers.{ChainAnswer}
 use Rattle.session.specs.Books.{held}
 use Rattle.session.proofs.Chaining.{renamed, chain_found, chain_none, chain_refused}

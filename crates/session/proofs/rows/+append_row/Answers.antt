@@ -1,6 +1,6 @@
 use Rattle.std.proofs.Common.{length, sym, ap, subst, arith}
 use Rattle.format.specs.Elements.{Reads}
-use Rattle.path.specs.Cursors.{ahead}
+use Rattle.element.specs.Cursors.{ahead}
 use Rattle.element.specs.Judged.{longest}
 use Rattle.session.proofs.Showing.{printed_all, printed_plain, printed_nested, shorter, ends_within}
 use Rattle.session.proofs.rows.+append_row.Goals as goal

@@ -1,5 +1,5 @@
 use Rattle.std.proofs.Common.{length, vec_items}
-use Rattle.path.specs.Cursors.{ahead}
+use Rattle.element.specs.Cursors.{ahead}
 use Rattle.session.proofs.Showing.{Printed}
 use Rattle.session.proofs.rows.+append_row.Given as goal
 

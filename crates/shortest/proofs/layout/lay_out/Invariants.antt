@@ -1,5 +1,5 @@
 use Rattle.std.proofs.Common.{◌<◌}
-use Rattle.certificate.specs.Sixes.{most}
+use Rattle.chain.specs.Sixes.{most}
 use Rattle.shortest.proofs.Laying.{Laying}
 use Rattle.shortest.specs.Steps.{from}
 use Rattle.shortest.proofs.layout.lay_out.Given as goal

@@ -1,7 +1,7 @@
 use Rattle.std.proofs.Common.{◌≡◌, ℕ, List, Option, vec_items}
 use Rattle.std.specs.Fn.{FnReturnsAt}
 use Rattle.text.specs.Figures.{all_of}
-use Rattle.tokens.specs.Pieces.{words}
+use Rattle.text.specs.Tokens.{words}
 use Rattle.text.proofs.Values.{onto}
 use Rattle.text.proofs.figures.read_all.Given as goal
 

@@ -1,5 +1,5 @@
 use Rattle.std.proofs.Common.{◌≡◌, rules, vec_items, ◌∙◌}
-use Rattle.tokens.specs.Pieces.{words}
+use Rattle.text.specs.Tokens.{words}
 use Rattle.text.specs.declared.error.LineError.TheVariants.{Unreadable}
 use Rattle.text.proofs.Values.{bytes_more, bytes_fail, bytes_end}
 use Rattle.text.proofs.figures.read_bytes.Goals as goal

@@ -1,6 +1,6 @@
 use Rattle.std.proofs.Common.{◌≡◌, vec_items}
 use Rattle.text.specs.Figures.{bytes_of}
-use Rattle.tokens.specs.Pieces.{words}
+use Rattle.text.specs.Tokens.{words}
 use Rattle.text.proofs.Values.{onto}
 use Rattle.text.proofs.figures.read_bytes.Given as goal
 

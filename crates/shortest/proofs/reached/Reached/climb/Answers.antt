@@ -1,7 +1,7 @@
 use Rattle.std.proofs.Common.{sym, ◌∙◌}
 use Rattle.trust.proofs.Layers.{explored_all}
 use Rattle.trust.proofs.Found.{no_chain}
-use Rattle.pool.proofs.Members.{anchor_at}
+use Rattle.chain.proofs.Members.{anchor_at}
 use Rattle.shortest.proofs.Ends.{topped}
 use Rattle.shortest.proofs.reached.Reached.climb.Goals as goal
 

@@ -1,5 +1,5 @@
 use Rattle.std.proofs.Common.{◌-◌}
-use Rattle.certificate.specs.Sixes.{most}
+use Rattle.chain.specs.Sixes.{most}
 use Rattle.shortest.specs.Kept.{Kept}
 use Rattle.shortest.proofs.reached.Reached.climb.Given as goal
 

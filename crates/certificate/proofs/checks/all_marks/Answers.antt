@@ -1,6 +1,0 @@
-use Rattle.std.proofs.Common.{◌∙◌, ap, leb}
-use Rattle.certificate.proofs.Tests.{largest_decides}
-use Rattle.certificate.proofs.checks.all_marks.Goals as goal
-
-pub returns : goal.returns
-returns c = ap (λ n. leb n 1) c.largest.ensures ∙ largest_decides 0 c.args.marks.now

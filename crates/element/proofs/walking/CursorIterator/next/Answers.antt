@@ -1,0 +1,16 @@
+use Rattle.std.proofs.Common.{refl, arith}
+use Rattle.element.proofs.Openings.{whole_of}
+use Rattle.element.proofs.walking.CursorIterator.next.Goals as goal
+
+pub overflow_sub-result : goal.overflow_sub-result
+overflow_sub-result c = omega (arith, (whole_of _ _ c.in_ok-tag.ensures).header)
+
+pub returns-clause-steps : goal.returns-clause-steps
+returns-clause-steps c =
+    let w = whole_of _ _ c.in_ok-tag.ensures in
+    record { whole = w.whole; fits = c.in_ok-tag.ensures.fits; front = w.front; place = refl; within = omega (arith, w.header); on = refl }
+
+pub returns-clause-goes : goal.returns-clause-goes
+returns-clause-goes c =
+    let w = whole_of _ _ c.in_ok-tag.ensures in
+    record { on = λ f. (omega (arith, w.size), f, omega (arith, w.size, w.header)); keeps = omega (arith, w.size); rests = λ f. f }

@@ -1,6 +1,0 @@
-use Rattle.std.proofs.Common.{◌≡◌, ◌++◌, vec_items}
-use Rattle.message.specs.Texts.{indent}
-use Rattle.message.proofs.push_indent.Given as goal
-
-abbrev pub invariant-loop : goal.invariant-loop
-invariant-loop l = vec_items l.out ≡ vec_items l.initial.out ++ indent l.counter

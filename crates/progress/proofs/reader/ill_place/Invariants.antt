@@ -1,9 +1,0 @@
-use Rattle.std.proofs.Common.{length}
-use Rattle.progress.proofs.Gone.{Reading}
-use Rattle.progress.proofs.reader.ill_place.Given as goal
-
-abbrev pub invariant-loop-rest : goal.invariant-loop-rest
-invariant-loop-rest l = Reading l.bytes l.reader l.rest
-
-abbrev pub decreases-loop-rest : goal.decreases-loop-rest
-decreases-loop-rest l = length l.rest

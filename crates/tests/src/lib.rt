@@ -1,0 +1,9 @@
+// Tests that cross crates, a module for each part.
+#![tactic(auto)]
+
+mod answers;
+mod chains;
+mod elements;
+mod lines;
+mod permits;
+mod places;
