@@ -1,4 +1,4 @@
--- Lists all of whose numbers are bytes. Assumes nothing.
+-- Lists whose numbers are all bytes.
 use Rattle.std.proofs.Common.{◌≡◌, ℕ, zero, suc, ◌<◌, true, ltb, List, [], ◌∷◌, ◌++◌, get_or, take, drop, refl}
 use Rattle.std.proofs.lemmas.Bool.{and_parts, and_from, lt-ltb, ltb-true}
 use Rattle.format.specs.Elements.{all_bytes}

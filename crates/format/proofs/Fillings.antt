@@ -1,4 +1,4 @@
--- When open rows can be completed: what a header that has begun asks of the room, rows that are full, and bytes that fill a row. Assumes nothing.
+-- When open rows can be completed: what a header that has begun asks of the room, rows that are full, and bytes that fill a row.
 use Rattle.std.proofs.Common.{◌≡◌, ℕ, zero, suc, ◌+◌, ◌<◌, ◌≤◌, true, ◌⊎◌, List, [], ◌∷◌, ◌++◌, length, sym, refl, ap, ◌∙◌, subst, inl, inr, ⊎_elim, append-nil, arith, length-append}
 use Rattle.std.proofs.lemmas.List.{nil_from_length}
 use Rattle.format.specs.Elements.{Row, empty, written_length, framed, all_bytes, Reads, Readable}
@@ -12,7 +12,7 @@ never_one d m b row h e =
     let f = has_front d m b row h (omega arith) in
     omega (arith, ap length f.is, framed_size f.tag f.contents f.behind)
 
--- so many bytes of the innermost row can be given to an element: they are there, and not one only is left
+-- k bytes of the innermost row can be given to an element: they are there, and what is left is not one byte
 abbrev pub Enough : List ℕ → ℕ → Type 0
 Enough [] k = ⊥
 Enough (r ∷ []) k = Unit {0}

@@ -1,4 +1,4 @@
--- Elements at the front of bytes: where one stands it is one only, and whether one stands there is decided. Assumes nothing.
+-- Elements at the front of bytes: where one stands it is one only, and whether one stands there is decided.
 use Rattle.std.proofs.Common.{◌≡◌, ℕ, ◌≤◌, ◌⊎◌, List, [], ◌∷◌, ◌++◌, length, take, drop, sym, refl, ap, ◌∙◌, subst, inl, inr, ⊎_elim, append_assoc, arith, length-append, take-append-drop, length-take-le, take_at, drop_at}
 use Rattle.std.proofs.lemmas.Bool.{cases_lt}
 use Rattle.format.specs.Elements.{written_length, framed}

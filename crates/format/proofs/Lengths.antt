@@ -1,4 +1,4 @@
--- Lengths: the three shapes of a written one, that what is written at the front of bytes is one length only, and which bytes begin with one. Assumes nothing.
+-- Lengths: the three shapes of a written one, that at most one is written at the front of bytes, and which bytes begin with one.
 use Rattle.std.proofs.Common.{◌≡◌, ℕ, ◌+◌, ◌*◌, ◌/◌, ◌%◌, ◌<◌, ◌≤◌, ◌⊎◌, List, [], ◌∷◌, ◌++◌, length, get_or, drop, sym, refl, ap, ◌∙◌, subst, inl, inr, ⊎_elim, arith}
 use Rattle.std.proofs.lemmas.Bool.{lt-ltb, le-ltb, cases_lt, cases_eq}
 use Rattle.format.specs.Elements.{written_length}
@@ -13,12 +13,12 @@ pub long : (n : ℕ) → 256 ≤ n → written_length n ≡ 130 ∷ (n / 256 ∷
 long n h = let k : 128 ≤ n = omega arith in rw (le-ltb n 128 k, le-ltb n 256 h)
 
 -- a written length is one of three shapes
-data Shape : ℕ → List ℕ → Type 0 where
+pub data Shape : ℕ → List ℕ → Type 0 where
   is_short : {n : ℕ} → n < 128 → Shape n (n ∷ [])
   is_middle : {n : ℕ} → 128 ≤ n → n < 256 → Shape n (129 ∷ (n ∷ []))
   is_long : {n : ℕ} → 256 ≤ n → Shape n (130 ∷ (n / 256 ∷ (n % 256 ∷ [])))
 
-shape : (n : ℕ) → Shape n (written_length n)
+pub shape : (n : ℕ) → Shape n (written_length n)
 shape n =
     ⊎_elim (λ h. subst (Shape n) (sym (short n h)) (is_short h))
     (λ h. ⊎_elim (λ k. subst (Shape n) (sym (middle n h k)) (is_middle h k)) (λ k. subst (Shape n) (sym (long n k)) (is_long k)) (cases_lt n 256)) (cases_lt n 128)

@@ -7,5 +7,6 @@ pub mod Places
 pub mod Readings
 pub mod Rests
 pub mod Rows
+pub mod Spellings
 pub mod Viability
 pub mod Walks

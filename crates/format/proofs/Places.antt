@@ -1,4 +1,4 @@
--- Where the elements of a row stand in its bytes. Assumes nothing.
+-- Where the elements of a row stand in its bytes.
 use Rattle.std.proofs.Common.{◌≡◌, ℕ, zero, suc, ◌+◌, ◌<◌, ◌≤◌, List, [], ◌∷◌, ◌++◌, length, take, drop, sym, refl, ap, ◌∙◌, subst, ⊎_elim, append_assoc, append-nil, one-add, arith, length-append, drop-drop, take_at, drop_at}
 use lib.Seq.{drop-append-add}
 use Rattle.std.proofs.lemmas.Bool.{cases_order}
@@ -61,7 +61,7 @@ part_of_bytes d m b row path h =
     ap (λ l. take (length w) (drop (place row path) l)) (sym h.writing ∙ sym (append-nil (written row))) ∙ ap (take (length w)) p.1 ∙ take_at w p.0 (length w) refl
 
 -- a row that is not empty takes two bytes at least
-some_bytes : (row : Row) → (row ≡ empty → ⊥) → 2 ≤ length (written row)
+pub some_bytes : (row : Row) → (row ≡ empty → ⊥) → 2 ≤ length (written row)
 unfolding written
 some_bytes empty f = absurd (f refl)
 some_bytes (primitive t c r) f = omega (arith, framed_size t c (written r))

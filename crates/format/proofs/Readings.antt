@@ -1,9 +1,9 @@
--- One reading: what bytes read as is unique, whether they read as a row is decided, and how a reader goes from element to element. Assumes nothing.
+-- One reading: what bytes read as is unique, whether they read as a row is decided, and how a reader goes from element to element.
 use Rattle.std.proofs.Common.{◌≡◌, ℕ, zero, suc, ◌+◌, ◌<◌, ◌≤◌, Bool, true, false, ◌⊎◌, List, [], ◌∷◌, ◌++◌, length, sym, refl, ap, ◌∙◌, subst, inl, inr, ⊎_elim, append-nil, arith}
 use Rattle.std.proofs.lemmas.Bool.{cases_lt, cases_Bool, both_ways, false≢true}
 use Rattle.std.proofs.lemmas.List.{nil_from_length}
 use Rattle.format.specs.Elements.{Row, empty, primitive, constructed, framed, written, all_bytes, well_formed, Reads, Readable}
-use Rattle.format.specs.Promise.{OneReading, SameFront, WrittenOnce, single}
+use Rattle.format.specs.Promise.{OneReading, SameFront, single}
 use Rattle.format.proofs.Fronts.{Front, front, same_front}
 use Rattle.format.proofs.Rows.{primitive_parts, primitive_from, constructed_parts, constructed_from, framed_size, as_primitive, as_constructed, goes_on, has_front}
 
@@ -144,6 +144,3 @@ same_element d m a b u v sa sb wa wb e =
     let (k, x, fb) = single_framed b sb in
     let s = same_front t k c x u v (ap (λ l. l ++ u) (sym fa) ∙ e ∙ ap (λ l. l ++ v) fb) in
     (unique a b d d m m wa wb (fa ∙ (λ i. framed (s.0 i) (s.1 i)) ∙ sym fb), s.2)
-
-pub written_once : WrittenOnce
-written_once d m row w = (record { well = w; writing = refl }, λ b h. sym h.writing)

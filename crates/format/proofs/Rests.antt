@@ -1,4 +1,4 @@
--- What completes rows that are open: the innermost row needs so many bytes more, then the row around it, and so on; the outermost ends with the bytes. Assumes nothing.
+-- What completes open rows, each of which but the outermost needs a known number of bytes more; the outermost ends with the bytes.
 use Rattle.std.proofs.Common.{◌≡◌, ℕ, suc, ◌+◌, ◌-◌, ◌<◌, ◌≤◌, true, List, [], ◌∷◌, ◌++◌, length, sym, refl, ap, ◌∙◌, subst, ⊎_elim, append_assoc, arith, length-append}
 use Rattle.std.proofs.lemmas.List.{nil_from_length}
 use Rattle.std.proofs.lemmas.Bool.{cases_lt}
@@ -21,7 +21,7 @@ pub record Cut (d m : ℕ) (Close : ℕ → List ℕ → Type 0) (c : List ℕ) 
   pub reads : Reads d m inner row
   pub closes : Close (length inner) outer
 
--- the bytes complete open rows, innermost first, of which each but the outermost needs so many bytes; d levels may open within the innermost
+-- the bytes complete open rows, given by what each but the outermost needs, innermost first; d levels may open within the innermost
 unfoldable pub Fills : (d m : ℕ) → (rows : List ℕ) → List ℕ → Type 0
 Fills d m [] c = ⊥
 Fills d m (r ∷ []) c = Cut d m (λ n y. y ≡ []) c
@@ -49,7 +49,7 @@ abbrev pub room : List ℕ → ℕ
 room [] = 0
 room (r ∷ rs) = r
 
--- so many bytes of the innermost row are given to an element
+-- k bytes of the innermost row are given to an element
 abbrev pub deduct : ℕ → List ℕ → List ℕ
 deduct k [] = []
 deduct k (r ∷ []) = r ∷ []

@@ -1,4 +1,4 @@
--- What a well-formed row is made of, and how a reading goes on behind the first element. Assumes nothing.
+-- What a well-formed row is made of, and how a reading goes on after the first element.
 use Rattle.std.proofs.Common.{◌≡◌, ℕ, zero, suc, ◌+◌, ◌<◌, ◌≤◌, true, ◌&&◌, ltb, leb, List, ◌++◌, length, sym, refl, ap, ◌∙◌, subst, arith, length-append}
 use Rattle.std.proofs.lemmas.Bool.{false≢true, ltb-true, leb-true, lt-ltb, le-leb, and_parts, and_from}
 use Rattle.format.specs.Elements.{Row, empty, primitive, constructed, written_length, framed, written, all_bytes, well_formed, Reads}

@@ -1,4 +1,4 @@
--- Viable bytes: fewer of them are viable too, and malformed bytes have one place, which is found if viability is decided. Assumes nothing.
+-- Viable bytes: fewer of them are viable too, and malformed bytes have one place, which is found if viability is decided.
 use Rattle.std.proofs.Common.{◌≡◌, ℕ, zero, suc, ◌+◌, ◌≤◌, true, ◌⊎◌, List, [], ◌++◌, length, take, drop, sym, ap, ◌∙◌, subst, ⊎_elim, append_assoc, arith, take-append-drop}
 use Rattle.std.proofs.lemmas.List.{take-take}
 use Rattle.std.proofs.lemmas.Bool.{cases_order}

@@ -1,4 +1,4 @@
--- How a walk along bytes follows the row that they read as. Assumes nothing.
+-- How a walk along bytes follows the row that they read as.
 use Rattle.std.proofs.Common.{◌≡◌, ℕ, suc, ◌+◌, ◌<◌, ◌≤◌, List, ◌++◌, length, sym, refl, ap, ◌∙◌, append-nil, arith, length-append}
 use Rattle.format.specs.Elements.{Row, empty, primitive, constructed, written_length, framed, written, Reads}
 use Rattle.format.specs.Paths.{nth, inside, before, header}

@@ -1,4 +1,5 @@
 pub mod Elements
 pub mod Paths
 pub mod Promise
+pub mod Spelled
 pub mod Viable

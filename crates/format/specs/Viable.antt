@@ -1,12 +1,12 @@
--- Bytes that may still become a row, and where malformed bytes are malformed. Assumes nothing: these are definitions.
+-- Bytes that may still become a row, and the place where malformed bytes are malformed.
 use Rattle.std.specs.Prelude.{◌≡◌, ℕ, ◌+◌, ◌<◌, ◌≤◌, true, List, ◌++◌, length, take}
 use Rattle.format.specs.Elements.{Row, all_bytes, Reads}
 
--- some bytes behind them make them read as a row
+-- bytes are viable if some more bytes make them read as a row
 abbrev pub Viable : (depth longest : ℕ) → (bytes : List ℕ) → Type 0
-Viable d m b = (behind : List ℕ) × (row : Row) × Reads d m (b ++ behind) row
+Viable d m b = (more : List ℕ) × (row : Row) × Reads d m (b ++ more) row
 
--- the place of malformed bytes: those before it are viable, and with the byte there they are not; where all are viable and only the end comes too soon, it is how many there are
+-- the place of malformed bytes: the bytes before it are viable, and with the byte at it they are not; where all bytes are viable and only the end comes too soon, it is how many there are
 pub record IllAt (depth longest : ℕ) (bytes : List ℕ) (at : ℕ) : Type 0 where
   pub within : at ≤ length bytes
   pub before : Viable depth longest (take at bytes)

@@ -1,30 +1,30 @@
-// The format of elements: what is promised of it, each promise on a function of its own.
+// The format of elements: no code, only definitions (specs/) and the laws that hold of them, each the contract of a function.
 #![tactic(auto)]
 
 ghost use Rattle.format.specs.Promise.{OneReading, SameFront, WrittenOnce, Wider, PartOfBytes, OnePath, Samples};
 
-// All bytes are one row of elements or malformed, and which is decided.
+// Any bytes are one row of elements or malformed, and which of the two is decided.
 pub fn one_reading_stands() -> u8
     ensures { OneReading }
 {
     0
 }
 
-// An element ends where it ends, whatever stands behind it.
+// No element is the front of another one.
 pub fn same_front_stands() -> u8
     ensures { SameFront }
 {
     0
 }
 
-// What is written is read as what it was, and there is no other writing of it.
+// Of all spellings of a row, also those with longer lengths than need be, only the written one reads, and as that row.
 pub fn written_once_stands() -> u8
     ensures { WrittenOnce }
 {
     0
 }
 
-// What narrower limits take, wider ones read as the same row.
+// What reads within narrower limits reads as the same row within wider ones.
 pub fn wider_stands() -> u8
     ensures { Wider }
 {
@@ -45,9 +45,9 @@ pub fn one_path_stands() -> u8
     0
 }
 
-// The samples, eight deep and with lengths of two bytes.
+// The samples read, or don't, within any limits that have room for them.
 pub fn samples_stands() -> u8
-    ensures { Samples 8 65535 }
+    ensures { Samples }
 {
     0
 }

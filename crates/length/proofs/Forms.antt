@@ -1,4 +1,4 @@
--- What is read at the front of bytes is the length that is written there. Assumes nothing.
+-- What is read at the front of bytes is the length that is written there.
 use Rattle.std.proofs.Common.{rules}
 use Rattle.length.specs.Lengths.{ReadsLength}
 

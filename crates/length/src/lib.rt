@@ -1,4 +1,5 @@
-// Lengths: read from the front of bytes, written, and how many bytes one takes.
+// Lengths: read from the front of bytes, written, and how many bytes one takes. They are the definite forms of X.690, 8.1.3, with at most two
+// further bytes; as in DER (10.1), only the shortest form of a length is read.
 #![tactic(auto)]
 
 ghost use Rattle.std.specs.Prelude.{◌≡◌, ◌++◌, length, is_ok, if◌then◌else◌};
@@ -7,22 +8,24 @@ ghost use Rattle.length.specs.Lengths.{front_length, ReadsLength};
 
 use std::alloc::AllocError;
 
-// A length that was read: its value, and how many bytes it takes.
+// A length that was read.
 #[derive(Clone, Copy)]
 pub struct Length {
+    // How many bytes the contents have, 0 to 65,535.
     pub value: usize,
+    // How many bytes the length itself takes, 1 to 3.
     pub size: usize,
 }
 
 impl Length {
-    // Below this a byte is a length by itself.
+    // A first byte below this is the length itself (short form).
     pub const SHORT: u8 = 128;
-    // Behind this byte stands a length of one byte.
+    // First byte of a long form: the length is in the next byte.
     pub const ONE_BYTE: u8 = 129;
-    // Behind this byte stands a length of two bytes, the higher first.
+    // First byte of a long form: the length is in the next two bytes, the higher first.
     pub const TWO_BYTES: u8 = 130;
 
-    // The length at the front of the bytes, or none if no length is written there.
+    // The length at the front of the bytes; None if they are too few, the first byte begins no length, or a shorter form would do.
     pub fn read(bytes: &[u8]) -> Option<Length>
         ensures { result ≡ front_length bytes.now }
     {
@@ -52,7 +55,7 @@ impl Length {
         }
     }
 
-    // How many bytes a length takes.
+    // How many bytes a length takes, 1 to 3.
     pub fn size_of(value: u16) -> usize
         ensures { result ≡ length (written_length value) }
     {
@@ -65,7 +68,7 @@ impl Length {
         }
     }
 
-    // Writes a length behind the bytes; where memory fails they stay as they were.
+    // Appends a length to the bytes. Out of memory is an error, and then the bytes are unchanged.
     pub fn append(out: &mut Vec<u8>, value: u16) -> Result<(), AllocError>
         ensures { out.new.items ≡ (if is_ok result then out.old.items ++ written_length value else out.old.items) }
     {
@@ -78,7 +81,7 @@ impl Length {
     }
 }
 
-// What is read at the front of bytes is the length that is written there, or none exactly if none is.
+// The length that is read at the front of bytes is the one that is written there; none is read exactly if none is written there.
 pub fn reads_length_stands() -> u8
     ensures { ReadsLength }
 {

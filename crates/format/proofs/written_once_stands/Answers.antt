@@ -1,4 +1,4 @@
-use Rattle.format.proofs.Readings.{written_once}
+use Rattle.format.proofs.Spellings.{written_once}
 use Rattle.format.proofs.written_once_stands.Goals as goal
 
 pub returns : goal.returns
