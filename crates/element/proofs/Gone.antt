@@ -1,5 +1,6 @@
--- Readers that have gone over bytes, byte by byte or over many at once. Assumes nothing.
-use Rattle.std.proofs.Common.{◌≡◌, ℕ, ◌+◌, ◌-◌, ◌<◌, ◌≤◌, min, true, eqb, List, [], ◌∷◌, ◌++◌, length, get_or, take, drop, Some, sym, refl, ap, ◌∙◌, subst, append_assoc, append-nil, arith, length-append, length-take, take_at}
+-- Readers that have gone over bytes, byte by byte or over many at once.
+use Rattle.std.proofs.Common.{◌≡◌, ℕ, ◌+◌, ◌-◌, ◌^◌, ◌<◌, ◌≤◌, min, true, eqb, List, [], ◌∷◌, ◌++◌, length, get_or, take, drop, Some, Ok, Err, Result, sym, refl, ap, ◌∙◌, subst, append_assoc, append-nil, arith, length-append, length-take, take_at}
+use Rattle.std.specs.Result.{OkIff, result_unwrap_or}
 use Rattle.std.proofs.lemmas.List.{nil_from_length, drop_more, take-append-drop}
 use Rattle.std.proofs.lemmas.Bool.{cond_both, cond-false, ne_eqb}
 use Rattle.format.specs.Elements.{all_bytes}
@@ -7,10 +8,11 @@ use Rattle.format.specs.Viable.{Viable}
 use Rattle.format.proofs.Bytes.{all_bytes_append, all_bytes_one, all_bytes_take, all_bytes_drop}
 use Rattle.format.proofs.Viability.{viable_none}
 use Rattle.element.specs.Limits.{deepest, longest}
-use Rattle.element.specs.Progressed.{state, Gone, Says, status_at, Skipped, Placed, contents_left}
-use Rattle.element.specs.Machine.{State, start, at_place, unfilled, settled, stepped, run}
-use Rattle.element.specs.declared.progress.place.Place.{Place}
-use Rattle.element.specs.declared.progress.place.Place.TheVariants.{Tag, Length, OneByte, TwoBytes, LowByte, Header, Contents, Nowhere}
+use Rattle.element.specs.Progressed.{Gone, StatusSays, Skipped, left_at, contents_left}
+use Rattle.element.specs.inner.IllPlace.{IllPlace}
+use Rattle.element.specs.inner.Machine.{State, start, at_position, unfilled, settled, stepped, run, state, status_at}
+use Rattle.element.specs.declared.progress.position.Position.{Position}
+use Rattle.element.specs.declared.progress.position.Position.TheVariants.{Tag, Length, OneByte, TwoBytes, LowByte, Header, Contents, Nowhere}
 use Rattle.element.specs.declared.progress.Progress.{Progress}
 use Rattle.element.specs.declared.progress.Status.{Status}
 use Rattle.element.specs.declared.progress.Status.TheVariants.{Ends, Within, Dead}
@@ -33,59 +35,62 @@ pub gone_step : (p q : Progress) (b : List ℕ) (x : ℕ) → Gone p b → x < 2
 unfolding run
 gone_step p q b x h byte e = gone_more p q b (x ∷ []) h (all_bytes_one x byte) e
 
-pub gone_says : (p : Progress) (b : List ℕ) (r : Status) → r ≡ status_at p.levels p.place → Gone p b → Says b r
+pub gone_says : (p : Progress) (b : List ℕ) (r : Status) → r ≡ status_at p.levels p.position → Gone p b → StatusSays b r
 gone_says p b r e h =
-    let told : status_at (run start b).levels (run start b).place ≡ r = ap (λ (s : State). status_at s.levels s.place) (sym h.is) ∙ sym e in
-    subst (Says b) told (run_says b h.each)
+    let told : status_at (run start b).levels (run start b).position ≡ r = ap (λ (s : State). status_at s.levels s.position) (sym h.is) ∙ sym e in
+    subst (StatusSays b) told (run_says b h.each)
 
 -- over contents byte by byte
-run_contents : (xs : List ℕ) (s : State) (n : ℕ) → 0 < length xs → length xs ≤ n → run (at_place s (Contents n)) xs ≡ settled (at_place s (Contents (n - length xs)))
+run_contents : (xs : List ℕ) (s : State) (n : ℕ) → 0 < length xs → length xs ≤ n → run (at_position s (Contents n)) xs ≡ settled (at_position s (Contents (n - length xs)))
 unfolding run
 run_contents [] s n some l = absurd (omega arith)
 run_contents (x ∷ []) s n some l = refl
 run_contents (x ∷ (y ∷ xs)) s n some l =
-    let stays : settled (at_place s (Contents (n - 1))) ≡ at_place s (Contents (n - 1)) = cond-false (eqb (n - 1) 0) (unfilled s) (at_place s (Contents (n - 1))) (ne_eqb (n - 1) 0 (omega arith)) in
+    let stays : settled (at_position s (Contents (n - 1))) ≡ at_position s (Contents (n - 1)) = cond-false (eqb (n - 1) 0) (unfilled s) (at_position s (Contents (n - 1))) (ne_eqb (n - 1) 0 (omega arith)) in
     let less : n - 1 - length (y ∷ xs) ≡ n - length (x ∷ (y ∷ xs)) = omega arith in
-    ap (λ q. run q (y ∷ xs)) stays ∙ run_contents (y ∷ xs) s (n - 1) (omega arith) (omega arith) ∙ ap (λ k. settled (at_place s (Contents k))) less
+    ap (λ q. run q (y ∷ xs)) stays ∙ run_contents (y ∷ xs) s (n - 1) (omega arith) (omega arith) ∙ ap (λ k. settled (at_position s (Contents k))) less
 
-alive_settled : (s : State) (n : ℕ) → Alive (settled (at_place s (Contents n))).place
-alive_settled s n = cond_both (eqb n 0) (unfilled s) (at_place s (Contents n)) (λ (q : State). Alive q.place) (λ e. tt) (λ e. tt)
+alive_settled : (s : State) (n : ℕ) → Alive (settled (at_position s (Contents n))).position
+alive_settled s n = cond_both (eqb n 0) (unfilled s) (at_position s (Contents n)) (λ (q : State). Alive q.position) (λ e. tt) (λ e. tt)
 
-pub skipped_none : (p : Progress) (most : ℕ) → 0 ≡ min most (contents_left p.place) → Skipped p most 0 p
+pub skipped_none : (p : Progress) (most : ℕ) → 0 ≡ min most (contents_left p) → Skipped p most 0 p
 unfolding run
 skipped_none p most e =
     record {
       far = e;
-      same = λ xs l. ap (run (state p)) (sym (nil_from_length xs l));
       gone = λ b xs h l bytes. subst (Gone p) (sym (ap (λ c. b ++ c) (nil_from_length xs l) ∙ append-nil b)) h;
       viable = λ b xs h l bytes v. subst (Viable deepest longest) (sym (ap (λ c. b ++ c) (nil_from_length xs l) ∙ append-nil b)) v;
     }
 
-pub no_contents : (p : Place) → ((n : ℕ) → p ≡ Contents n → ⊥) → contents_left p ≡ 0
+pub no_contents : (p : Position) → ((n : ℕ) → p ≡ Contents n → ⊥) → left_at p ≡ 0
 no_contents Tag h = refl
 no_contents (Length t) h = refl
 no_contents (OneByte t) h = refl
 no_contents (TwoBytes t) h = refl
 no_contents (LowByte t k) h = refl
-no_contents (Header t size n) h = refl
+no_contents (Header t n) h = refl
 no_contents (Contents n) h = absurd (h n refl)
 no_contents Nowhere h = refl
 
-pub skipped_some : (p q : Progress) (most n over : ℕ) → p.place ≡ Contents n → 0 < over → over ≡ min most n → state q ≡ settled (at_place (state p) (Contents (n - over))) → Skipped p most over q
+-- a number, or the largest of 16 bits if it does not fit
+pub clamped : {E : Type 0} (n : ℕ) (r : Result ℕ E) → OkIff r (n < 2 ^ 16) n → result_unwrap_or r (2 ^ 16 - 1) ≡ min n (2 ^ 16 - 1)
+clamped n (Ok k) h = omega (arith, h)
+clamped n (Err e) h = omega (arith, h)
+
+pub skipped_some : (p q : Progress) (most n over : ℕ) → p.position ≡ Contents n → 0 < over → over ≡ min most n → state q ≡ settled (at_position (state p) (Contents (n - over))) → Skipped p most over q
 skipped_some p q most n over at some e is =
     record {
-      far = e ∙ ap (λ k. min most (contents_left k)) (sym at);
-      same = same;
+      far = e ∙ ap (λ k. min most (left_at k)) (sym at);
       gone = λ b xs h l bytes. gone_more p q b xs h bytes (same xs l);
       viable = λ b xs h l bytes v. let g = gone_more p q b xs h bytes (same xs l) in
-          viable_alive (run start (b ++ xs)) (b ++ xs) (after (b ++ xs) g.each) (subst (λ (s : State). Alive s.place) (sym is ∙ g.is) (alive_settled (state p) (n - over)));
+          viable_alive (run start (b ++ xs)) (b ++ xs) (after (b ++ xs) g.each) (subst (λ (s : State). Alive s.position) (sym is ∙ g.is) (alive_settled (state p) (n - over)));
     }
   where
     same : (xs : List ℕ) → length xs ≡ over → state q ≡ run (state p) xs
     same xs l =
-        is ∙ ap (λ k. settled (at_place (state p) (Contents (n - k)))) (sym l) ∙ sym (run_contents xs (state p) n (omega arith) (omega arith)) ∙ ap (λ k. run (at_place (state p) k) xs) (sym at)
+        is ∙ ap (λ k. settled (at_position (state p) (Contents (n - k)))) (sym l) ∙ sym (run_contents xs (state p) n (omega arith) (omega arith)) ∙ ap (λ k. run (at_position (state p) k) xs) (sym at)
 
--- a reader in the midst of bytes, of which so many are left, and which are viable so far
+-- a reader in the midst of bytes: those it has gone over are viable, and `rest` is left
 pub record Reading (bytes : List ℕ) (p : Progress) (rest : List ℕ) : Type 0 where
   pub before : List ℕ
   pub is : before ++ rest ≡ bytes
@@ -96,13 +101,13 @@ pub record Reading (bytes : List ℕ) (p : Progress) (rest : List ℕ) : Type 0 
 pub reading_start : (b : List ℕ) (p : Progress) → all_bytes b ≡ true → Gone p [] → Reading b p b
 reading_start b p each h = record { before = []; is = refl; gone = h; viable = viable_none deepest longest; each = each }
 
-alive_says : (b : List ℕ) (st : Status) → Says b st → (st ≡ Dead → ⊥) → Viable deepest longest b
+alive_says : (b : List ℕ) (st : Status) → StatusSays b st → (st ≡ Dead → ⊥) → Viable deepest longest b
 alive_says b Ends h n = viable_end b h
 alive_says b Within h n = h.0
 alive_says b Dead h n = absurd (n refl)
 
 module _ (b : List ℕ) (p q : Progress) (rest : List ℕ) (h : Reading b p rest) (some : 0 < length rest) (st : Status)
-    (goes : (c : List ℕ) → Gone p c → Gone q (c ++ (get_or rest 0 0 ∷ []))) (says : (c : List ℕ) → Gone p c → Says (c ++ (get_or rest 0 0 ∷ [])) st) where
+    (goes : (c : List ℕ) → Gone p c → Gone q (c ++ (get_or rest 0 0 ∷ []))) (says : (c : List ℕ) → Gone p c → StatusSays (c ++ (get_or rest 0 0 ∷ [])) st) where
   abbrev Further : List ℕ
   Further = h.before ++ (get_or rest 0 0 ∷ [])
 
@@ -110,7 +115,7 @@ module _ (b : List ℕ) (p q : Progress) (rest : List ℕ) (h : Reading b p rest
   further = append_assoc h.before (get_or rest 0 0 ∷ []) (drop 1 rest) ∙ ap (λ l. h.before ++ l) (sym (drop_more rest 0 0 some)) ∙ h.is
 
   -- the place is where no bytes can help
-  pub reading_dead : st ≡ Dead → Placed b (Some (length b - length rest))
+  pub reading_dead : st ≡ Dead → IllPlace b (Some (length b - length rest))
   reading_dead dead =
       let size : length h.before ≡ length b - length rest = omega (arith, ap length h.is, length-append h.before rest) in
       let before : take (length b - length rest) b ≡ h.before = ap (take (length b - length rest)) (sym h.is) ∙ take_at h.before rest (length b - length rest) size in
@@ -119,7 +124,7 @@ module _ (b : List ℕ) (p q : Progress) (rest : List ℕ) (h : Reading b p rest
       record {
         within = omega arith;
         before = subst (Viable deepest longest) (sym before) h.viable;
-        here = λ l v. subst (Says Further) dead (says h.before h.gone) (subst (Viable deepest longest) here v);
+        here = λ l v. subst (StatusSays Further) dead (says h.before h.gone) (subst (Viable deepest longest) here v);
         end = λ e. absurd (omega (arith, ap length h.is, length-append h.before rest));
       }
 

@@ -1,6 +1,7 @@
+pub mod Entries
 pub mod Gone
 pub mod Openings
-pub mod Places
+pub mod Positions
 pub mod Resting
 pub mod Rooms
 pub mod Runs

@@ -1,15 +1,15 @@
--- Where an element opens, and where none does. Assumes nothing.
+-- Where an element opens, and where none does.
 use Rattle.std.proofs.Common.{◌≡◌, ℕ, ◌+◌, ◌-◌, ◌<◌, ◌≤◌, List, [], ◌∷◌, ◌++◌, length, get_or, take, drop, Option, sym, ap, ◌∙◌, subst, arith, length-drop, length-append, length-take-le, get_or-drop, take_at}
 use Rattle.std.proofs.lemmas.List.{take_rest}
 use Rattle.format.specs.Elements.{written_length, framed}
 use Rattle.format.proofs.Fronts.{Front, frame, front_length_of, front_says}
 use Rattle.format.proofs.Rows.{framed_size}
 use Rattle.length.specs.declared.Length.{Length}
-use Rattle.length.specs.Lengths.{Begins, LengthAt, front_length}
+use Rattle.length.specs.Lengths.{LengthFront, LengthAt, front_length}
 use Rattle.length.proofs.Forms.{reads_length}
 use Rattle.element.specs.declared.judging.Opening.{Opening}
-use Rattle.element.specs.Judged.{longest}
-use Rattle.element.specs.Openings.{Opens}
+use Rattle.element.specs.Limits.{longest}
+use Rattle.element.specs.inner.Openings.{Opens}
 
 -- no element stands at the front of the bytes
 abbrev pub Shut : List ℕ → Type 0
@@ -22,7 +22,7 @@ pub front_of : (b : List ℕ) → Shut b → Front longest b → ⊥
 front_of b f g = f g.tag g.contents g.behind g.fits g.is
 
 -- a tag and a length, with enough bytes behind them
-pub opens_from : (b : List ℕ) (v k : ℕ) → 0 < length b → get_or b 0 0 < 256 → Begins (drop 1 b) v k → v ≤ length (drop k (drop 1 b)) → (o : Opening) → o.tag ≡ get_or b 0 0 → o.contents.now ≡ take v (drop k (drop 1 b)) → o.behind.now ≡ drop v (drop k (drop 1 b)) → Opens b o
+pub opens_from : (b : List ℕ) (v k : ℕ) → 0 < length b → get_or b 0 0 < 256 → LengthFront (drop 1 b) v k → v ≤ length (drop k (drop 1 b)) → (o : Opening) → o.tag ≡ get_or b 0 0 → o.contents.now ≡ take v (drop k (drop 1 b)) → o.behind.now ≡ drop v (drop k (drop 1 b)) → Opens b o
 opens_from [] v k some byte h fits o tag contents behind = absurd (omega arith)
 opens_from (t ∷ x) v k some byte h fits o tag contents behind =
     let whole = frame t v (drop k x) (t ∷ x) fits (ap (λ y. t ∷ y) h.is) in
@@ -42,7 +42,7 @@ shut_length [] h f = absurd (omega arith)
 shut_length (t ∷ x) h f = shut_from (t ∷ x) (λ g. f (length g.contents) (g.contents ++ g.behind) (front_length_of longest t x g))
 
 -- a length that says more than there is
-pub shut_long : (b : List ℕ) (v k : ℕ) → 0 < length b → Begins (drop 1 b) v k → length b < 1 + k + v → Shut b
+pub shut_long : (b : List ℕ) (v k : ℕ) → 0 < length b → LengthFront (drop 1 b) v k → length b < 1 + k + v → Shut b
 shut_long [] v k h g l = absurd (omega arith)
 shut_long (t ∷ x) v k h g l =
     shut_from (t ∷ x) (λ f. omega (arith, g.within, length-drop k x, (front_says longest t v (drop k x) (subst (λ y. Front longest (t ∷ y)) g.is f)).1))

@@ -1,4 +1,4 @@
--- A reader that has gone over bytes: what completes its rows is what makes the bytes read as a row. Assumes nothing.
+-- A reader that has gone over bytes: what completes its rows is what makes the bytes read as a row.
 use Rattle.std.proofs.Common.{◌≡◌, ℕ, ◌+◌, ◌<◌, true, eqb, ◌⊎◌, List, [], ◌∷◌, ◌++◌, get_or, drop, sym, refl, ap, subst, inl, inr, append_assoc, append-nil, arith}
 use Rattle.std.proofs.lemmas.Bool.{eqb-true, eqb-false, cond_both}
 use Rattle.format.specs.Elements.{all_bytes, Readable}
@@ -9,14 +9,14 @@ use Rattle.format.proofs.Readings.{readable_none}
 use Rattle.format.proofs.Rests.{Fills, room}
 use Rattle.format.proofs.Viability.{one_place}
 use Rattle.element.specs.Limits.{deepest, longest}
-use Rattle.element.specs.Progressed.{Says, status_at}
-use Rattle.element.specs.Machine.{State, start, at_place, stepped, run}
-use Rattle.element.specs.declared.progress.place.Place.{Place}
-use Rattle.element.specs.declared.progress.place.Place.TheVariants.{Tag, Length, OneByte, TwoBytes, LowByte, Header, Contents, Nowhere}
+use Rattle.element.specs.Progressed.{StatusSays}
+use Rattle.element.specs.inner.Machine.{State, endless, start, at_position, stepped, run, status_at}
+use Rattle.element.specs.declared.progress.position.Position.{Position}
+use Rattle.element.specs.declared.progress.position.Position.TheVariants.{Tag, Length, OneByte, TwoBytes, LowByte, Header, Contents, Nowhere}
 use Rattle.element.specs.declared.progress.Status.{Status}
 use Rattle.element.specs.declared.progress.Status.TheVariants.{Ends, Within, Dead}
 use Rattle.element.proofs.Standing.{Standing}
-use Rattle.element.proofs.Places.{Ready}
+use Rattle.element.proofs.Positions.{Ready}
 use Rattle.element.proofs.Resting.{Alive, Inner, completable, unfinished}
 use Rattle.element.proofs.Rooms.{rows_two, rows_last}
 use Rattle.element.proofs.Turns.{rows_of, Complete, Sound, stepping}
@@ -31,8 +31,8 @@ after_start : After start []
 unfolding Standing
 after_start = record {
   sound = record { bound = omega arith; size = refl; standing = refl; known = omega arith };
-  to = λ c h. to_outermost 8 longest 131072 c h;
-  from = λ c f. outermost 8 longest 131072 c f;
+  to = λ c h. to_outermost deepest longest endless c h;
+  from = λ c f. outermost deepest longest endless c f;
 }
 
 after_step : (s : State) (b : List ℕ) (x : ℕ) → x < 256 → After s b → After (stepped s x) (b ++ (x ∷ []))
@@ -55,9 +55,9 @@ after_run (x ∷ b) done s bytes h =
 pub after : (b : List ℕ) → all_bytes b ≡ true → After (run start b) b
 after b bytes = after_run b [] start bytes after_start
 
-pub viable_alive : (s : State) (b : List ℕ) → After s b → Alive s.place → Viable deepest longest b
+pub viable_alive : (s : State) (b : List ℕ) → After s b → Alive s.position → Viable deepest longest b
 viable_alive s b h a =
-    let k = completable s.levels (rows_of s) h.sound.standing s.place h.sound.known a in
+    let k = completable s.levels (rows_of s) h.sound.standing s.position h.sound.known a in
     let r = h.from k.0 k.1 in
     (k.0, r.0, r.1)
 
@@ -65,45 +65,45 @@ readable_end : (b : List ℕ) → Readable deepest longest b true → Readable d
 readable_end b h = subst (λ l. Readable deepest longest l true) (sym (append-nil b)) h
 
 -- within an element the bytes are viable, and do not read as a row
-within_element : (s : State) (b : List ℕ) → After s b → Alive s.place → Inner s.place → Says b Within
-within_element s b h a i = (viable_alive s b h a, λ row reads. unfinished s.levels (rows_of s) h.sound.standing s.place h.sound.known i (h.to [] (readable_end b (row, reads))))
+within_element : (s : State) (b : List ℕ) → After s b → Alive s.position → Inner s.position → StatusSays b Within
+within_element s b h a i = (viable_alive s b h a, λ row reads. unfinished s.levels (rows_of s) h.sound.standing s.position h.sound.known i (h.to [] (readable_end b (row, reads))))
 
 -- before a tag the row may end, if it is the outermost
-before_tag : (s : State) (b : List ℕ) → After (at_place s Tag) b → Says b (status_at s.levels Tag)
+before_tag : (s : State) (b : List ℕ) → After (at_position s Tag) b → StatusSays b (status_at s.levels Tag)
 before_tag s b h =
-    cond_both (eqb s.levels 8) Ends Within (Says b)
-    (λ e. let rows = rows_last s.rooms s.levels (eqb-true s.levels 8 e) h.sound.size in
+    cond_both (eqb s.levels deepest) Ends Within (StatusSays b)
+    (λ e. let rows = rows_last s.rooms s.levels (eqb-true s.levels deepest e) h.sound.size in
     let none : Readable s.levels longest [] true = readable_none s.levels longest in
     subst (λ l. Readable deepest longest l true) (append-nil b) (h.from [] (subst (λ r. Fills s.levels longest r []) (sym rows) (to_outermost s.levels longest (get_or s.rooms s.levels 0) [] none))))
-    (λ e. let less : s.levels < 8 = omega (arith, h.sound.bound, eqb-false s.levels 8 e) in
+    (λ e. let less : s.levels < deepest = omega (arith, h.sound.bound, eqb-false s.levels deepest e) in
     let rows = rows_two s.rooms s.levels less h.sound.size in
     let some : 0 < get_or s.rooms s.levels 0 = omega (arith, h.sound.known, ap room rows) in (
-      viable_alive (at_place s Tag) b h tt,
+      viable_alive (at_position s Tag) b h tt,
       λ row reads. needs_some s.levels longest (get_or s.rooms s.levels 0) (get_or s.rooms (s.levels + 1) 0) (drop (s.levels + 1 + 1) s.rooms) some (subst (λ r. Fills s.levels longest r []) rows (h.to [] (readable_end b (row, reads)))),
     ))
 
-status_says : (s : State) (b : List ℕ) (p : Place) → After (at_place s p) b → Says b (status_at s.levels p)
+status_says : (s : State) (b : List ℕ) (p : Position) → After (at_position s p) b → StatusSays b (status_at s.levels p)
 status_says s b Tag h = before_tag s b h
-status_says s b (Length t) h = within_element (at_place s (Length t)) b h tt tt
-status_says s b (OneByte t) h = within_element (at_place s (OneByte t)) b h tt tt
-status_says s b (TwoBytes t) h = within_element (at_place s (TwoBytes t)) b h tt tt
-status_says s b (LowByte t k) h = within_element (at_place s (LowByte t k)) b h tt tt
-status_says s b (Header t size n) h = within_element (at_place s (Header t size n)) b h tt tt
-status_says s b (Contents n) h = within_element (at_place s (Contents n)) b h tt tt
+status_says s b (Length t) h = within_element (at_position s (Length t)) b h tt tt
+status_says s b (OneByte t) h = within_element (at_position s (OneByte t)) b h tt tt
+status_says s b (TwoBytes t) h = within_element (at_position s (TwoBytes t)) b h tt tt
+status_says s b (LowByte t k) h = within_element (at_position s (LowByte t k)) b h tt tt
+status_says s b (Header t n) h = within_element (at_position s (Header t n)) b h tt tt
+status_says s b (Contents n) h = within_element (at_position s (Contents n)) b h tt tt
 status_says s b Nowhere h = λ v. h.to v.0 (v.1, v.2)
 
--- what the place says of any bytes
-pub run_says : (b : List ℕ) → all_bytes b ≡ true → Says b (status_at (run start b).levels (run start b).place)
-run_says b bytes = status_says (run start b) b (run start b).place (after b bytes)
+-- what the position says of any bytes
+pub run_says : (b : List ℕ) → all_bytes b ≡ true → StatusSays b (status_at (run start b).levels (run start b).position)
+run_says b bytes = status_says (run start b) b (run start b).position (after b bytes)
 
 -- bytes that read as a row are viable
 pub viable_end : (b : List ℕ) → Readable deepest longest b true → Viable deepest longest b
 viable_end b h = let r = readable_end b h in ([], r.0, r.1)
 
-viable_decided : (b : List ℕ) (st : Status) → Says b st → Viable deepest longest b ⊎ (Viable deepest longest b → ⊥)
+viable_decided : (b : List ℕ) (st : Status) → StatusSays b st → Viable deepest longest b ⊎ (Viable deepest longest b → ⊥)
 viable_decided b Ends h = inl (viable_end b h)
 viable_decided b Within h = inl h.0
 viable_decided b Dead h = inr h
 
 pub one_place_stands : OnePlace deepest longest
-one_place_stands = one_place deepest longest (λ b bytes. viable_decided b (status_at (run start b).levels (run start b).place) (run_says b bytes))
+one_place_stands = one_place deepest longest (λ b bytes. viable_decided b (status_at (run start b).levels (run start b).position) (run_says b bytes))

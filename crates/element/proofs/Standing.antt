@@ -1,4 +1,4 @@
--- Open rows whose outermost has room for any element: what a header that has begun asks of the innermost. Assumes nothing.
+-- Open rows whose outermost has room for any element: what a header that has begun asks of the innermost.
 use Rattle.std.proofs.Common.{◌≡◌, ℕ, suc, ◌+◌, ◌<◌, ◌≤◌, List, [], ◌∷◌, ◌++◌, length, drop, sym, subst, ⊎_elim, append-nil, arith}
 use Rattle.std.proofs.lemmas.Bool.{cases_eq, eq-eqb, ne_eqb}
 use Rattle.format.specs.Elements.{written_length}
@@ -6,12 +6,12 @@ use Rattle.format.proofs.Lengths.{Says, says}
 use Rattle.format.proofs.Rests.{taken, Fills, room, deduct}
 use Rattle.format.proofs.Fillings.{Enough, Kind, heading, closed, reopened, Fillable, filling_headed}
 use Rattle.element.specs.Limits.{longest}
-use Rattle.element.specs.Machine.{full}
+use Rattle.element.specs.inner.Machine.{endless, full}
 
 -- the outermost row has no end, and none of the others needs one byte
 unfoldable pub Standing : List ℕ → Type 0
 Standing [] = ⊥
-Standing (r ∷ []) = r ≡ 131072
+Standing (r ∷ []) = r ≡ endless
 Standing (r ∷ (s ∷ rs)) = (r ≡ 1 → ⊥) × Standing (s ∷ rs)
 
 pub fillable : (rows : List ℕ) → Standing rows → Fillable rows

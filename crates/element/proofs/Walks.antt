@@ -1,4 +1,4 @@
--- What a cursor finds in the row that its bytes read as. Assumes nothing.
+-- What a cursor finds in the row that its bytes read as.
 use Rattle.std.proofs.Common.{◌≡◌, ℕ, suc, ◌+◌, ◌-◌, ◌<◌, ◌≤◌, List, [], ◌∷◌, ◌++◌, length, get_or, take, drop, Some, None, Option, sym, refl, ap, ◌∙◌, subst, append_assoc, append-nil, zero-add, arith, length-append, length-drop, MatchOption}
 use Rattle.std.specs.Iterator.{Yields, YieldsThen}
 use Rattle.std.specs.List.{flat_map}
@@ -8,19 +8,20 @@ use Rattle.format.specs.Paths.{nth, inside, at_path, before, header, place}
 use Rattle.format.proofs.Places.{at_path_empty, part_of_bytes}
 use Rattle.format.proofs.Readings.{same_reading}
 use Rattle.format.proofs.Walks.{Step, step, stop}
-use Rattle.element.specs.Cursors.{ahead, Passes, Next, CursorGives}
-use Rattle.element.specs.Judged.{deepest, longest}
-use Rattle.element.specs.Located.{Leads, Nowhere, Found, PieceMeans}
+use Rattle.element.specs.Cursors.{ahead, offset, Passes, NextElement, CursorGives}
+use Rattle.element.specs.Limits.{deepest, longest}
+use Rattle.element.specs.Located.{Leads, LeadsNowhere, PieceMeans}
+use Rattle.element.specs.inner.Found.{Found}
 use Rattle.element.specs.declared.walking.Cursor.{Cursor}
 use Rattle.element.specs.declared.walking.Element.{Element}
 use Rattle.element.proofs.Openings.{front_of}
 
 -- what an element splits, at the front of the bytes before a cursor
 pub split : {c : Cursor} {e : Element} {after : Cursor} → Passes c e after → ahead c ≡ framed e.tag e.contents.now ++ ahead after
-split {after = after} p = p.front ∙ ap (λ l. l ++ ahead after) p.whole
+split {e = e} {after = after} p = p.front ∙ ap (λ l. l ++ ahead after) e.is
 
 -- and where they end
-pub same_end : {c : Cursor} {e : Element} {after : Cursor} → Passes c e after → after.at + length (ahead after) ≡ c.at + length (ahead c)
+pub same_end : {c : Cursor} {e : Element} {after : Cursor} → Passes c e after → offset after + length (ahead after) ≡ offset c + length (ahead c)
 same_end {e = e} {after = after} p = omega (arith, p.on, ap length p.front, length-append e.whole.now (ahead after))
 
 -- one step of a cursor in a row
@@ -32,15 +33,15 @@ pub record Passed (d : ℕ) (row : Row) (k from : ℕ) (t : Cursor) : Type 0 whe
   pub left : Row
   pub reads : Reads d longest (ahead t) left
   pub same : (n : ℕ) → nth row (k + n) ≡ nth left n
-  pub places : (n : ℕ) → from + before row (k + n) ≡ t.at + before left n
+  pub places : (n : ℕ) → from + before row (k + n) ≡ offset t + before left n
 
-pub passed : (d : ℕ) (xs : List Element) (row : Row) (s t : Cursor) → Reads d longest (ahead s) row → Yields Next s xs t → Passed d row (length xs) s.at t
-passed d [] row s t h e = subst (Passed d row 0 s.at) e (record { left = row; reads = h; same = λ n. ap (nth row) (zero-add n); places = λ n. ap (λ k. s.at + before row k) (zero-add n) })
+pub passed : (d : ℕ) (xs : List Element) (row : Row) (s t : Cursor) → Reads d longest (ahead s) row → Yields NextElement s xs t → Passed d row (length xs) (offset s) t
+passed d [] row s t h e = subst (Passed d row 0 (offset s)) e (record { left = row; reads = h; same = λ n. ap (nth row) (zero-add n); places = λ n. ap (λ k. offset s + before row k) (zero-add n) })
 passed d (x ∷ xs) row s t h e =
     let p = e.1 in
     let g = stepped d row s x e.0 h p in
     let r = passed d xs g.behind e.0 t g.reads e.2 in
-    let long = ap length p.whole in
+    let long = ap length x.is in
     let shift : (n : ℕ) → suc (length xs) + n ≡ suc (length xs + n) = λ n. omega arith in
     record {
       left = r.left;
@@ -65,18 +66,18 @@ nth_some d row k from t e u q p =
     let at : e.at ≡ from + before row k = omega (arith, q.places 0, g.first, p.place, ap (before row) zero_more) in
     record {
       some = λ f. g.some (sym same ∙ f);
-      is = p.whole ∙ sym g.here ∙ ap written (sym same);
+      is = e.is ∙ sym g.here ∙ ap written (sym same);
       there = at;
       plain = λ l. ap inside same ∙ g.plain l;
       within = λ l.
           let w = g.within l in (
             w.less,
             subst (λ r. Reads w.less longest e.contents.now (inside r)) (sym same) w.reads,
-            omega (arith, p.within, ap length p.whole, w.size, at, ap header same),
+            omega (arith, e.within, ap length e.is, w.size, at, ap header same),
           );
     }
 
-pub nth_none : (d : ℕ) (row : Row) (k n from : ℕ) (t u : Cursor) → Passed d row k from t → Next t None u → k ≤ n → nth row n ≡ empty
+pub nth_none : (d : ℕ) (row : Row) (k n from : ℕ) (t u : Cursor) → Passed d row k from t → NextElement t None u → k ≤ n → nth row n ≡ empty
 unfolding nth
 nth_none d row k n from t u q e h =
     let more : k + (n - k) ≡ n = omega arith in
@@ -96,20 +97,18 @@ place_in row n (k ∷ rest) h = refl
 
 -- a cursor to which the first i numbers of a path have led: the rest of the path leads on from there
 pub record Led (bytes path : List ℕ) (i : ℕ) (c : Cursor) : Type 0 where
-  pub near : c.at + length (ahead c) ≤ length bytes
-  pub on : (row : Row) → Reads deepest longest bytes row → (d : ℕ) × (left : Row) × Reads d longest (ahead c) left × (at_path row path ≡ at_path left (drop i path)) × (place row path ≡ c.at + place left (drop i path))
+  pub on : (row : Row) → Reads deepest longest bytes row → (d : ℕ) × (left : Row) × Reads d longest (ahead c) left × (at_path row path ≡ at_path left (drop i path)) × (place row path ≡ offset c + place left (drop i path))
 
 module _ (bytes path : List ℕ) (i : ℕ) (c : Cursor) (h : Led bytes path i c) (n : ℕ) (e : drop i path ≡ n ∷ drop (i + 1) path) where
   -- where the number leads to nothing, or to an element with nothing within, the path leads to nothing
-  pub led_nowhere : 0 < length (drop (i + 1) path) → ((d : ℕ) (left : Row) → Reads d longest (ahead c) left → inside (nth left n) ≡ empty) → Nowhere bytes path
+  pub led_nowhere : 0 < length (drop (i + 1) path) → ((d : ℕ) (left : Row) → Reads d longest (ahead c) left → inside (nth left n) ≡ empty) → LeadsNowhere bytes path
   led_nowhere more f = λ row r.
       let (d, left, reads, same, there) = h.on row r in
       same ∙ ap (at_path left) e ∙ at_path_in left n (drop (i + 1) path) more ∙ ap (λ x. at_path x (drop (i + 1) path)) (f d left reads) ∙ at_path_empty (drop (i + 1) path)
 
   -- the path goes on within the element
-  pub led_inside : 0 < length (drop (i + 1) path) → (x : Element) (after : Cursor) → ahead after ≡ x.contents.now → after.at ≡ x.contents_at → x.contents_at + length x.contents.now ≤ length bytes → 128 ≤ x.tag → ((d : ℕ) (left : Row) → Reads d longest (ahead c) left → Nth d left n c.at x) → Led bytes path (i + 1) after
-  led_inside more x after ahead-is at-is near high f = record {
-    near = omega (arith, ap length ahead-is);
+  pub led_inside : 0 < length (drop (i + 1) path) → (x : Element) (after : Cursor) → ahead after ≡ x.contents.now → offset after ≡ x.contents_at → 128 ≤ x.tag → ((d : ℕ) (left : Row) → Reads d longest (ahead c) left → Nth d left n (offset c) x) → Led bytes path (i + 1) after
+  led_inside more x after ahead-is at-is high f = record {
     on = λ row r.
         let (d, left, reads, same, there) = h.on row r in
         let w = (f d left reads).within high in
@@ -123,7 +122,7 @@ module _ (bytes path : List ℕ) (i : ℕ) (c : Cursor) (h : Led bytes path i c)
   }
 
   -- the last number leads to the element
-  pub led_found : length (drop (i + 1) path) ≡ 0 → (x : Element) (row : Row) → Reads deepest longest bytes row → ((d : ℕ) (left : Row) → Reads d longest (ahead c) left → Nth d left n c.at x) → Leads bytes path x.at x.whole.now
+  pub led_found : length (drop (i + 1) path) ≡ 0 → (x : Element) (row : Row) → Reads deepest longest bytes row → ((d : ℕ) (left : Row) → Reads d longest (ahead c) left → Nth d left n (offset c) x) → Leads bytes path x.at x.whole.now
   unfolding at_path place
   led_found none x row r f =
       let (d, left, reads, same, there) = h.on row r in
@@ -141,35 +140,25 @@ module _ (bytes path : List ℕ) (i : ℕ) (c : Cursor) (h : Led bytes path i c)
         part = is ∙ sym (part_of_bytes deepest longest bytes row path r) ∙ (λ j. take (length (sym is j)) (drop (sym at j) bytes));
       }
 
-  pub led_nothing : length (drop (i + 1) path) ≡ 0 → ((d : ℕ) (left : Row) → Reads d longest (ahead c) left → nth left n ≡ empty) → Nowhere bytes path
+  pub led_nothing : length (drop (i + 1) path) ≡ 0 → ((d : ℕ) (left : Row) → Reads d longest (ahead c) left → nth left n ≡ empty) → LeadsNowhere bytes path
   unfolding at_path
   led_nothing none f = λ row r.
       let (d, left, reads, same, there) = h.on row r in
       same ∙ ap (at_path left) (e ∙ ap (λ l. n ∷ l) (nil_from_length (drop (i + 1) path) none)) ∙ f d left reads
 
--- places stay within the bytes
-steps_near : (xs : List Element) (s t : Cursor) → Yields Next s xs t → t.at + length (ahead t) ≡ s.at + length (ahead s)
-steps_near [] s t e = ap (λ (c : Cursor). c.at + length (ahead c)) (sym e)
-steps_near (x ∷ xs) s t e = steps_near xs e.0 t e.2 ∙ same_end e.1
-
 -- what a cursor's `nth` gives, by the elements that it passes
 abbrev pub Ran : (n : ℕ) (s : Cursor) (r : Option Element) (u : Cursor) → Type 0
-Ran n s r u = (xs : List Element) × YieldsThen Next s xs r u × MatchOption r (length xs ≤ n) (λ _. length xs ≡ n)
+Ran n s r u = (xs : List Element) × YieldsThen NextElement s xs r u × MatchOption r (length xs ≤ n) (λ _. length xs ≡ n)
 
 pub ran_none : (n : ℕ) (s u : Cursor) → Ran n s None u → (d : ℕ) (left : Row) → Reads d longest (ahead s) left → nth left n ≡ empty
 ran_none n s u ran d left h =
     let (xs, (t, ys, last), few) = ran in
-    nth_none d left (length xs) n s.at t u (passed d xs left s t h ys) last few
+    nth_none d left (length xs) n (offset s) t u (passed d xs left s t h ys) last few
 
-pub ran_some : (n : ℕ) (s u : Cursor) (e : Element) → Ran n s (Some e) u → (d : ℕ) (left : Row) → Reads d longest (ahead s) left → Nth d left n s.at e
+pub ran_some : (n : ℕ) (s u : Cursor) (e : Element) → Ran n s (Some e) u → (d : ℕ) (left : Row) → Reads d longest (ahead s) left → Nth d left n (offset s) e
 ran_some n s u e ran d left h =
     let (xs, (t, ys, last), few) = ran in
-    subst (λ k. Nth d left k s.at e) few (nth_some d left (length xs) s.at t e u (passed d xs left s t h ys) last)
-
-pub ran_near : (n : ℕ) (s u : Cursor) (e : Element) → Ran n s (Some e) u → e.contents_at + length e.contents.now ≤ s.at + length (ahead s)
-ran_near n s u e ran =
-    let (xs, (t, ys, last), few) = ran in
-    omega (arith, steps_near xs s t ys, last.within, last.place, ap length last.front, length-append e.whole.now (ahead u))
+    subst (λ k. Nth d left k (offset s) e) few (nth_some d left (length xs) (offset s) t e u (passed d xs left s t h ys) last)
 
 -- the numbers of a path before its last one, and its last one
 module _ (path outer : List ℕ) (last i : ℕ) (e : path ≡ outer ++ (last ∷ [])) where
@@ -218,7 +207,7 @@ piece_means bytes path (Some part) (at, leads) =
 piece_means bytes path None f = record { is = λ row h. ap written (sym (f row h)); there = λ row h. refl; malformed = λ g. refl }
 
 -- the elements that a cursor gives, one behind the other
-given_joined : (xs : List Element) (s t : Cursor) → Yields Next s xs t → ahead s ≡ flat_map (λ e. e.whole.now) xs ++ ahead t
+given_joined : (xs : List Element) (s t : Cursor) → Yields NextElement s xs t → ahead s ≡ flat_map (λ e. e.whole.now) xs ++ ahead t
 given_joined [] s t e = ap ahead e
 given_joined (x ∷ xs) s t e = e.1.front ∙ ap (λ l. x.whole.now ++ l) (given_joined xs e.0 t e.2) ∙ sym (append_assoc x.whole.now (flat_map (λ y. y.whole.now) xs) (ahead t))
 

@@ -1,8 +1,8 @@
 pub mod Appended
 pub mod Cursors
+pub mod inner
+pub mod Indexed
 pub mod Judged
 pub mod Limits
 pub mod Located
-pub mod Machine
-pub mod Openings
 pub mod Progressed

@@ -1,14 +1,11 @@
--- The limits that a reader keeps to. Assumes nothing: these are definitions.
+-- The limits of the format that a reader keeps.
 use Rattle.std.specs.Prelude.{ℕ}
+use Rattle.format.specs.Elements.{greatest_length}
 
--- constructed elements stand within one another at most so deep
+-- constructed elements stand within one another at most this deep
 abbrev pub deepest : ℕ
 deepest = 8
 
--- contents have at most so many bytes
+-- the contents of an element have at most as many bytes as a length can say
 abbrev pub longest : ℕ
-longest = 65535
-
--- the outermost row has no end: this is more than any element takes
-abbrev pub endless : ℕ
-endless = 131072
+longest = greatest_length

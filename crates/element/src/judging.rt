@@ -1,61 +1,66 @@
 // Bytes judged: whether they are a row of elements.
-ghost use Rattle.std.specs.Prelude.{◌-◌, ◌≤◌};
+ghost use Rattle.std.specs.Prelude.{◌-◌};
 ghost use Rattle.format.specs.Elements.{Readable};
-ghost use Rattle.element.specs.Judged.{Judged, deepest, longest};
-ghost use Rattle.element.specs.Openings.{Opened};
+ghost use Rattle.element.specs.Judged.{Judged};
+ghost use Rattle.element.specs.Limits.{deepest, longest};
+ghost use Rattle.element.specs.inner.Openings.{Opened, Leaves};
 
-use crate::progress::Progress;
 use crate::progress::stepping::ill_place;
 use length::Length;
 
-// The place of malformed bytes: the first byte after which no bytes behind could make them a row, or how many there are.
+// What `judge` answers.
 #[derive(Clone, Copy, PartialEq, Eq, Debug)]
-pub struct Ill {
-    pub at: usize,
+pub enum Verdict {
+    // The bytes are a row of elements.
+    Well,
+    // The bytes before `at` could begin a row, and with the byte there they cannot. Where only the end comes too soon, `at` is the number of bytes.
+    Ill { at: usize },
 }
 
-// The first element of bytes, and what is behind it.
+// The first element of some bytes, and the bytes behind it.
 #[derive(Clone, Copy)]
-pub struct Opening<'a> {
-    pub tag: u8,
-    pub contents: &'a [u8],
-    pub behind: &'a [u8],
+pub(crate) struct Opening<'a> {
+    pub(crate) tag: u8,
+    pub(crate) contents: &'a [u8],
+    pub(crate) behind: &'a [u8],
 }
 
-// What is left of a row, and how many levels of constructed elements it may have.
+// The bytes of a row that are still to be read, and how many levels of constructed elements may open in it.
 #[derive(Clone, Copy)]
 struct Rest<'a> {
     bytes: &'a [u8],
-    depth: usize,
+    depth: u8,
 }
 
-// Whether the bytes are a row of elements; only malformed ones are gone over again, for the place.
-pub fn judge(bytes: &[u8]) -> Result<(), Ill>
+// Whether the bytes are a row of elements. Malformed ones are read again, byte by byte, for the place.
+pub fn judge(bytes: &[u8]) -> Verdict
     ensures { Judged bytes.now result }
 {
     if Reader::row(bytes) {
-        return Ok(());
+        return Verdict::Well;
     }
-    // None is not reached: the two readers agree.
-    ill_place(bytes).map_or(Ok(()), |at| Err(Ill { at }))
+    // `None` cannot come: both readers accept the same bytes.
+    ill_place(bytes).map_or(Verdict::Well, |at| Verdict::Ill { at })
 }
 
-// The reader of rows and of what stands within constructed elements.
+// The limits of the format, and the reader that keeps them.
 pub struct Reader;
 
 impl Reader {
-    // Constructed elements stand within one another at most so deep.
-    pub const MAX_DEPTH: usize = Progress::MAX_DEPTH;
-    // Contents have at most so many bytes.
+    // Constructed elements stand within one another at most this deep.
+    pub const MAX_DEPTH: u8 = 8;
+    // Contents have at most this many bytes.
     pub const MAX_LENGTH: usize = 65_535;
     // Tags from this one on are of constructed elements.
-    pub const CONSTRUCTED: u8 = Progress::CONSTRUCTED;
+    pub const CONSTRUCTED: u8 = 128;
+    // The shortest element is a tag and a length of one byte.
+    const SHORTEST: usize = 2;
 
     // The element at the front of the bytes.
-    pub fn open<'a>(bytes: &'a [u8]) -> Option<Opening<'a>>
+    pub(crate) fn open<'a>(bytes: &'a [u8]) -> Option<Opening<'a>>
         ensures { Opened bytes.now result }
     {
-        // Two bytes at least: asked at once, for that is one test.
+        // One test covers the tag and the first byte of the length.
         let [tag, _, ..] = bytes else {
             return None;
         };
@@ -69,69 +74,62 @@ impl Reader {
     }
 
     // Whether the bytes are a row.
-    pub fn row(bytes: &[u8]) -> bool
+    pub(crate) fn row(bytes: &[u8]) -> bool
         ensures { Readable deepest longest bytes.now result }
     {
-        Reader::levels(bytes, Reader::MAX_DEPTH)
+        Reader::elements(bytes, Reader::MAX_DEPTH)
     }
 
     // Whether the bytes are a row that can stand within a constructed element.
-    pub fn inner_row(bytes: &[u8]) -> bool
+    pub(crate) fn inner_row(bytes: &[u8]) -> bool
         ensures { Readable (deepest - 1) longest bytes.now result }
     {
-        Reader::levels(bytes, Reader::MAX_DEPTH - 1)
+        Reader::elements(bytes, Reader::MAX_DEPTH - 1)
     }
 
-    // Whether the bytes are a row with so many levels of constructed elements.
-    fn levels(bytes: &[u8], depth: usize) -> bool
-        requires { depth ≤ deepest }
+    // Whether the bytes are a row in which `depth` levels of constructed elements may open.
+    #[cycle(elements_element)]
+    fn elements(bytes: &[u8], depth: u8) -> bool
         ensures { Readable depth longest bytes.now result }
     {
-        // What is behind the constructed elements that are gone into, the innermost last; of those with nothing behind, nothing.
-        let mut outer = [Rest {
-            bytes: &[],
-            depth: 0,
-        }; Reader::MAX_DEPTH];
-        let mut waiting = 0;
         let mut rest = Rest { bytes, depth };
-        loop {
-            match Reader::open(rest.bytes) {
-                Some(Opening { tag, behind, .. }) if tag < Reader::CONSTRUCTED => {
-                    rest.bytes = behind;
-                }
-                Some(
-                    Opening {
-                        contents,
-                        behind,
-                        ..
-                    },
-                ) => {
-                    if rest.depth == 0 {
-                        return false;
-                    }
-                    if !behind.is_empty() {
-                        outer[waiting] = Rest {
-                            bytes: behind,
-                            depth: rest.depth,
-                        };
-                        waiting += 1;
-                    }
-                    rest = Rest {
-                        bytes: contents,
-                        depth: rest.depth - 1,
-                    };
-                }
-                None => {
-                    if !rest.bytes.is_empty() {
-                        return false;
-                    }
-                    if waiting == 0 {
-                        return true;
-                    }
-                    waiting -= 1;
-                    rest = outer[waiting];
-                }
-            }
+        while rest.bytes.len() >= Reader::SHORTEST {
+            let Some(next) = Reader::element(rest.bytes, rest.depth) else {
+                return false;
+            };
+            rest = next;
         }
+        rest.bytes.is_empty()
+    }
+
+    // Reads the first element, and answers what is left to read: the bytes behind it or, if it is constructed and the last, its contents, which then need no call.
+    #[cycle(elements_element)]
+    fn element<'a>(bytes: &'a [u8], depth: u8) -> Option<Rest<'a>>
+        ensures { Leaves depth bytes.now result }
+    {
+        let Opening {
+            tag,
+            contents,
+            behind,
+        } = Reader::open(bytes)?;
+        if tag < Reader::CONSTRUCTED {
+            return Some(Rest {
+                bytes: behind,
+                depth,
+            });
+        }
+        if behind.is_empty() {
+            return Some(Rest {
+                bytes: contents,
+                depth: depth.checked_sub(1)?,
+            });
+        }
+        if !Reader::elements(contents, depth.checked_sub(1)?) {
+            return None;
+        }
+        Some(Rest {
+            bytes: behind,
+            depth,
+        })
     }
 }

@@ -1,15 +1,42 @@
-// Elements: bytes judged, walked along, found by their paths, and written.
+// Elements: bytes judged, walked along, read byte by byte, searched by paths, and written.
 #![tactic(auto)]
 
+ghost use Rattle.format.specs.Viable.{OnePlace};
+ghost use Rattle.element.specs.Limits.{deepest, longest};
+ghost use Rattle.element.specs.Cursors.{CursorGives};
+ghost use Rattle.element.specs.Located.{PieceMeans};
+
+mod index;
 mod judging;
 mod paths;
 mod progress;
 mod walking;
 mod writing;
 
-pub use judging::{Ill, Opening, Reader, judge};
-pub use paths::{Span, find, locate, piece, piece_means_stands};
-pub use progress::stepping::{ill_place, one_place_stands};
+pub use index::Index;
+pub use judging::{Reader, Verdict, judge};
+pub use paths::{Span, locate, piece};
 pub use progress::{Progress, Status};
-pub use walking::{Cursor, Element, cursor_gives_stands};
+pub use walking::{Cursor, Element};
 pub use writing::{WriteError, append_constructed, append_primitive};
+
+// Malformed bytes are malformed at exactly one place.
+pub fn one_place_stands() -> u8
+    ensures { OnePlace deepest longest }
+{
+    0
+}
+
+// The elements that a cursor yields, one after the other, are the bytes of the row.
+pub fn cursor_gives_stands() -> u8
+    ensures { CursorGives }
+{
+    0
+}
+
+// A piece is the element as it is written, at its place, for every reading of the bytes.
+pub fn piece_means_stands() -> u8
+    ensures { PieceMeans }
+{
+    0
+}

@@ -1,12 +1,13 @@
 // Elements found by their paths.
-// Bytes and a path come by themselves, from C and from a line of text: a value of both would live for one call.
+// A path is a row of indices from 0: the first says which element of the row, the next which one within it, and so on.
 ghost use Rattle.std.specs.Prelude.{option_map};
-ghost use Rattle.element.specs.Located.{Found, Located, Piece, PieceMeans};
+ghost use Rattle.element.specs.Located.{Located, Piece};
+ghost use Rattle.element.specs.inner.Found.{Found};
 
-use crate::judging::judge;
+use crate::judging::{Verdict, judge};
 use crate::walking::{Cursor, Element};
 
-// Where an element stands in the bytes, and how many bytes it takes.
+// Where an element begins in the bytes, and how many bytes it takes.
 #[derive(Clone, Copy)]
 pub struct Span {
     pub at: usize,
@@ -14,10 +15,10 @@ pub struct Span {
 }
 
 // The element that a path leads to, if the bytes are a row of elements and it leads to one.
-pub fn find<'a>(bytes: &'a [u8], path: &[u64]) -> Option<Element<'a>>
+fn find<'a>(bytes: &'a [u8], path: &[u64]) -> Option<Element<'a>>
     ensures { Found bytes.now path.now result }
 {
-    let Ok(()) = judge(bytes) else {
+    let Verdict::Well = judge(bytes) else {
         return None;
     };
     let (last, outer) = path.split_last()?;
@@ -28,7 +29,7 @@ pub fn find<'a>(bytes: &'a [u8], path: &[u64]) -> Option<Element<'a>>
     cursor.nth(*last as usize)
 }
 
-// The place and the size of the element that a path leads to.
+// Where the element that a path leads to stands. None if the bytes are malformed, or the path leads to no element.
 pub fn locate(bytes: &[u8], path: &[u64]) -> Option<Span>
     ensures { Located bytes.now path.now result }
 {
@@ -39,16 +40,9 @@ pub fn locate(bytes: &[u8], path: &[u64]) -> Option<Span>
     })
 }
 
-// The element that a path leads to, as the part of the bytes that it is, if it leads to one.
+// The bytes of the element that a path leads to, tag and length included. None if the bytes are malformed, or the path leads to no element.
 pub fn piece<'a>(bytes: &'a [u8], path: &[u64]) -> Option<&'a [u8]>
     ensures { Piece bytes.now path.now (option_map (λ part. part.now) result) }
 {
     find(bytes, path).map(|element| element.whole)
-}
-
-// A piece is the element as it is written, at its place, for each reading of the bytes.
-pub fn piece_means_stands() -> u8
-    ensures { PieceMeans }
-{
-    0
 }

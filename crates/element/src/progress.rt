@@ -1,29 +1,33 @@
-// What a reader that goes byte by byte keeps.
+// What a reader that takes its bytes one by one keeps between them.
 ghost use Rattle.std.specs.Prelude.{◌≤◌};
 ghost use Rattle.element.specs.Limits.{deepest};
 
-pub(crate) mod place;
+pub(crate) mod position;
 pub(crate) mod stepping;
 
-use place::Place;
+use crate::judging::Reader;
+use position::Position;
 
-// The rows that can be open at once: the outermost, and one for each level.
-pub const ROWS: usize = Progress::MAX_DEPTH + 1;
+// Rows that can be open at once: the outermost, and one for each level.
+pub(crate) const ROWS: usize = Reader::MAX_DEPTH as usize + 1;
 
-// Where a reader is, how many levels of constructed elements may open there, and how many bytes each open row still needs, the row with so many levels at that number.
-// An array and a number in place of a Vec, since reading takes no memory; no ghost field says which bytes it has gone over, since `skip` is not given them.
+// A reader that takes its bytes one by one: its position within an element, how many levels of constructed elements may open there, and how many bytes each open row still needs, the row in which n levels may open at index n.
+// The rows are an array, since reading allocates nothing.
 #[derive(Clone, Copy)]
 pub struct Progress {
-    pub(crate) place: Place,
-    pub(crate) levels: usize,
+    pub(crate) position: Position,
+    pub(crate) levels: u8,
     pub(crate) rooms: [usize; ROWS],
     ghost bounded: { levels ≤ deepest },
 }
 
-// What is known of the bytes so far: they could end here, they are within an element, or no bytes can help.
+// What is known of the bytes so far.
 #[derive(Clone, Copy)]
 pub enum Status {
+    // They are a row of elements, and could end here.
     Ends,
+    // They end within an element.
     Within,
+    // They are no row of elements, whatever bytes follow.
     Dead,
 }

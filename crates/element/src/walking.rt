@@ -1,19 +1,20 @@
 // A row of elements, walked along one by one.
-ghost use Rattle.std.specs.Prelude.{◌≡◌, length};
-ghost use Rattle.element.specs.Cursors.{Next, PlacesFit, RowOf, ahead, CursorGives};
+ghost use Rattle.std.specs.Prelude.{◌≡◌, ◌+◌, ◌^◌, ◌<◌, ◌≤◌, length, ◌==◌};
 ghost use Rattle.std.specs.Iterator.{at_most};
+ghost use Rattle.format.specs.Elements.{framed};
+ghost use Rattle.element.specs.Limits.{longest};
 
 use crate::judging::{Opening, Reader};
 
-// What is left of a row of elements, and where that begins in the bytes that were lent.
-// That its places fit is a clause of its steps: in the type it would ask more of whoever builds a cursor.
+// The bytes of a row that are still to be read, and where they begin in the bytes that were lent to `new`.
 #[derive(Clone, Copy)]
 pub struct Cursor<'a> {
-    pub rest: &'a [u8],
-    pub at: usize,
+    rest: &'a [u8],
+    at: usize,
+    ghost fits: { at + length rest.now < 2 ^ 64 },
 }
 
-// An element as it stands in the bytes: its tag, its contents, all of it, and where both begin.
+// An element as it stands in the bytes: its tag, its contents, all its bytes, and where both begin. The contents of a constructed element need not be a row.
 #[derive(Clone, Copy)]
 pub struct Element<'a> {
     pub tag: u8,
@@ -21,29 +22,33 @@ pub struct Element<'a> {
     pub whole: &'a [u8],
     pub at: usize,
     pub contents_at: usize,
+    pub ghost is: { whole.now ≡ framed tag contents.now },
+    pub ghost short: { length contents.now ≤ longest },
+    pub ghost within: { contents_at + length contents.now ≡ at + length whole.now },
+    pub ghost fits: { at + length whole.now < 2 ^ 64 },
 }
 
 impl<'a> Cursor<'a> {
+    ghost use Rattle.element.specs.Cursors.{ahead, offset};
+
     // A cursor before the first element of a row.
     pub fn new(bytes: &'a [u8]) -> Cursor<'a>
         ensures rest { ahead result ≡ bytes.now }
-        ensures place { result.at ≡ 0 }
+        ensures place { offset result ≡ 0 }
     {
         Cursor { rest: bytes, at: 0 }
+    }
+
+    // Whether no bytes of the row are left.
+    pub fn is_empty(&self) -> bool
+        ensures { result ≡ (length (ahead self.now) == 0) }
+    {
+        self.rest.is_empty()
     }
 }
 
 impl<'a> Element<'a> {
-    // A cursor before the first element within.
-    pub fn inside(&self) -> Cursor<'a>
-        ensures rest { ahead result ≡ self.now.contents.now }
-        ensures place { result.at ≡ self.now.contents_at }
-    {
-        Cursor {
-            rest: self.contents,
-            at: self.contents_at,
-        }
-    }
+    ghost use Rattle.element.specs.Cursors.{RowOf};
 
     // A cursor before the first element within, if the element is constructed.
     pub fn row(&self) -> Option<Cursor<'a>>
@@ -52,20 +57,23 @@ impl<'a> Element<'a> {
         if self.tag < Reader::CONSTRUCTED {
             return None;
         }
-        Some(self.inside())
+        Some(Cursor {
+            rest: self.contents,
+            at: self.contents_at,
+        })
     }
 }
 
 impl<'a> Iterator for Cursor<'a> {
+    ghost use Rattle.element.specs.Cursors.{NextElement, ahead};
+
     type Item = Element<'a>;
 
-    ghost can_next = { PlacesFit };
-
-    ghost next_gives = { Next };
+    ghost next_gives = { NextElement };
 
     ghost remaining = { λ c. at_most (length (ahead c)) };
 
-    // The next element of the row.
+    // The next element of the row, or none if no element stands at the front; the cursor then stays.
     fn next(&mut self) -> Option<Element<'a>> {
         let Opening {
             tag,
@@ -84,11 +92,4 @@ impl<'a> Iterator for Cursor<'a> {
             contents_at: self.at - contents.len(),
         })
     }
-}
-
-// The elements that a cursor gives, one behind the other, are the bytes of the row.
-pub fn cursor_gives_stands() -> u8
-    ensures { CursorGives }
-{
-    0
 }

@@ -1,4 +1,4 @@
-// Elements written behind the bytes of a vector.
+// Elements appended to a vector.
 ghost use Rattle.std.specs.Prelude.{◌≡◌, take, is_ok, if◌then◌else◌, vec_len};
 ghost use Rattle.element.specs.Appended.{Appended, AppendedPrimitive, AppendedConstructed};
 ghost use Rattle.element.specs.declared.writing.WriteError.TheVariants.{Memory};
@@ -7,30 +7,29 @@ use crate::judging::Reader;
 use length::Length;
 use std::alloc::AllocError;
 
-// Why an element is not written; the vector is then as it was.
+// Why an element was not appended; the vector is then unchanged.
 #[derive(Clone, Copy, PartialEq, Eq, Debug)]
 pub enum WriteError {
-    // The tag is of the other kind of element.
+    // The tag belongs to the other kind of element.
     Tag,
-    // The contents are longer than a length can say.
+    // The contents have more than `Reader::MAX_LENGTH` bytes.
     Length,
-    // The contents are no row of elements, or too deep.
+    // The contents are no row of elements, or one that nests too deep.
     Contents,
-    // There is no memory.
+    // Out of memory.
     Memory(AllocError),
 }
 
 impl From<AllocError> for WriteError {
     ghost from_gives = { λ error e. e ≡ Memory error };
 
-    // The allocator's error is the reason.
+    // Out of memory.
     fn from(error: AllocError) -> WriteError {
         WriteError::Memory(error)
     }
 }
 
-// Writes the parts of an element one after the other; where memory fails, some of them may stand there.
-// Tag and contents go by themselves: a value of both would promise what is tried here.
+// Appends the parts of an element one by one. If memory runs out, some of them may have been appended.
 #[tactic(auto, unfolding(format::specs::Elements::framed))]
 fn append_parts(out: &mut Vec<u8>, tag: u8, contents: &[u8]) -> Result<(), WriteError>
     ensures { Appended Unit Unit tag contents.now out.old.items (if is_ok result then out.new.items else take (vec_len out.old) out.new.items) result }
@@ -44,8 +43,8 @@ fn append_parts(out: &mut Vec<u8>, tag: u8, contents: &[u8]) -> Result<(), Write
     Ok(())
 }
 
-// Writes an element behind the bytes, if its contents are not too long.
-fn append_element(out: &mut Vec<u8>, tag: u8, contents: &[u8]) -> Result<(), WriteError>
+// Appends an element, or nothing.
+fn append_any(out: &mut Vec<u8>, tag: u8, contents: &[u8]) -> Result<(), WriteError>
     ensures { Appended Unit Unit tag contents.now out.old.items out.new.items result }
 {
     let before = out.len();
@@ -56,26 +55,26 @@ fn append_element(out: &mut Vec<u8>, tag: u8, contents: &[u8]) -> Result<(), Wri
     done
 }
 
-// Writes a primitive element behind the bytes.
+// Appends a primitive element; its contents are any bytes.
 pub fn append_primitive(out: &mut Vec<u8>, tag: u8, contents: &[u8]) -> Result<(), WriteError>
     ensures { AppendedPrimitive tag contents.now out.old.items out.new.items result }
 {
     if tag >= Reader::CONSTRUCTED {
         return Err(WriteError::Tag);
     }
-    append_element(out, tag, contents)
+    append_any(out, tag, contents)
 }
 
-// Writes a constructed element, whose contents are the bytes of a row, behind the bytes.
+// Appends a constructed element; its contents are a row, which may nest one level less than a whole row.
 pub fn append_constructed(out: &mut Vec<u8>, tag: u8, row: &[u8]) -> Result<(), WriteError>
     ensures { AppendedConstructed tag row.now out.old.items out.new.items result }
 {
     if tag < Reader::CONSTRUCTED {
         return Err(WriteError::Tag);
     }
-    // Contents that are too long are not read: they are refused for that.
+    // Contents that are too long are refused for that, and not read.
     if row.len() <= Reader::MAX_LENGTH && !Reader::inner_row(row) {
         return Err(WriteError::Contents);
     }
-    append_element(out, tag, row)
+    append_any(out, tag, row)
 }

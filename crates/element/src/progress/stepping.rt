@@ -1,80 +1,76 @@
 // Bytes read one by one, and the place where they are malformed.
 ghost use Rattle.std.specs.Prelude.{◌≡◌, ℕ, ◌+◌, ◌≤◌, List, [], ◌∷◌, ◌++◌, length, drop};
-ghost use Rattle.format.specs.Viable.{OnePlace};
-ghost use Rattle.element.specs.Machine.{State, start, at_place, entered, spent, settled, stepped, full};
-ghost use Rattle.element.specs.Limits.{deepest, longest};
-ghost use Rattle.element.specs.Progressed.{state, Gone, Says, status_at, Skipped, Placed};
+ghost use Rattle.element.specs.Limits.{deepest};
+ghost use Rattle.element.specs.Progressed.{Gone, StatusSays, Skipped};
+ghost use Rattle.element.specs.inner.IllPlace.{IllPlace};
+ghost use Rattle.element.specs.inner.Machine.{state, at_position, entered, spent, settled, full};
 
-use crate::progress::place::Place;
+use crate::judging::Reader;
+use crate::progress::position::{Position, taken};
 use crate::progress::{Progress, ROWS, Status};
 
 impl Progress {
-    // Constructed elements stand within one another at most so deep.
-    pub const MAX_DEPTH: usize = 8;
-    // Tags from this one on are of constructed elements.
-    pub const CONSTRUCTED: u8 = 128;
-    // The outermost row has no end: more than any element takes.
-    const ENDLESS: usize = 131_072;
+    // The outermost row has no end: it needs more than any element takes.
+    const ENDLESS: usize = 2 * (Reader::MAX_LENGTH + 1);
 
     // A reader before the first byte.
     pub fn new() -> Progress
-        ensures is { state result ≡ start }
-        ensures gone { Gone result [] }
+        ensures { Gone result [] }
     {
         Progress {
-            place: Place::Tag,
-            levels: Progress::MAX_DEPTH,
+            position: Position::Tag,
+            levels: Reader::MAX_DEPTH,
             rooms: [Progress::ENDLESS; ROWS],
         }
     }
 
-    // Goes over a byte.
+    // Reads a byte, and answers what is known of the bytes so far.
     pub fn step(&mut self, byte: u8) -> Status
-        ensures goes { state self.new ≡ stepped (state self.old) byte }
         ensures gone { (b : List ℕ) → Gone self.old b → Gone self.new (b ++ (byte ∷ [])) }
-        ensures says { (b : List ℕ) → Gone self.old b → Says (b ++ (byte ∷ [])) result }
+        ensures says { (b : List ℕ) → Gone self.old b → StatusSays (b ++ (byte ∷ [])) result }
     {
-        let room = self.rooms[self.levels];
-        let place = self.place.next(room, self.levels, byte);
-        self.enter(place);
+        let room = self.rooms[usize::from(self.levels)];
+        let position = self.position.next(room, self.levels, byte);
+        self.enter(position);
         self.settle();
         self.status()
     }
 
-    // Goes to a place; behind a header the contents are open, if their bytes fit what the row needs.
-    fn enter(&mut self, place: Place)
-        ensures { state self.new ≡ entered (at_place (state self.old) place) }
+    // Goes to a position; behind a header, into the contents if the row has room for them.
+    fn enter(&mut self, position: Position)
+        ensures { state self.new ≡ entered (at_position (state self.old) position) }
     {
-        self.place = place;
-        let Place::Header { tag, size, len } = place else {
+        self.position = position;
+        let Position::Header { tag, len } = position else {
             return;
         };
-        self.place = Place::Nowhere;
-        let room = self.rooms[self.levels];
-        let taken = usize::from(size) + usize::from(len);
+        self.position = Position::Nowhere;
+        let room = self.rooms[usize::from(self.levels)];
+        let taken = taken(len);
         if room < taken || room == taken + 1 {
             return;
         }
-        if tag < Progress::CONSTRUCTED {
-            self.place = Place::Contents { left: len };
+        if tag < Reader::CONSTRUCTED {
+            self.position = Position::Contents { left: len };
             self.spend(taken);
             return;
         }
         if len == 1 || self.levels == 0 {
             return;
         }
-        self.place = Place::Tag;
+        self.position = Position::Tag;
         self.spend(taken);
         self.levels -= 1;
-        self.rooms[self.levels] = usize::from(len);
+        self.rooms[usize::from(self.levels)] = usize::from(len);
     }
 
-    // Gives so many bytes of the innermost row to an element.
+    // Gives bytes of the innermost row to an element.
     fn spend(&mut self, taken: usize)
         ensures { state self.new ≡ spent (state self.old) taken }
     {
-        if self.levels < Progress::MAX_DEPTH {
-            self.rooms[self.levels] = self.rooms[self.levels].saturating_sub(taken);
+        if self.levels < Reader::MAX_DEPTH {
+            let room = &mut self.rooms[usize::from(self.levels)];
+            *room = room.saturating_sub(taken);
         }
     }
 
@@ -82,56 +78,56 @@ impl Progress {
     fn settle(&mut self)
         ensures { state self.new ≡ settled (state self.old) }
     {
-        if let Place::Tag | Place::Contents { left: 0 } = self.place {
-            self.place = Place::Tag;
+        if let Position::Tag | Position::Contents { left: 0 } = self.position {
+            self.position = Position::Tag;
             self.levels = self.innermost();
         }
     }
 
-    // The levels that may open in the innermost row that still needs bytes.
-    fn innermost(&self) -> usize
+    // How many levels may open in the innermost row that still needs bytes.
+    fn innermost(&self) -> u8
         ensures bounded { result ≤ deepest }
         ensures is { result ≡ self.now.levels + full (drop self.now.levels self.now.rooms) }
     {
-        let inner = &self.rooms[self.levels..Progress::MAX_DEPTH];
-        self.levels + inner.iter().take_while(|room| **room == 0).count()
+        let mut levels = self.levels;
+        while levels < Reader::MAX_DEPTH && self.rooms[usize::from(levels)] == 0 {
+            levels += 1;
+        }
+        levels
     }
 
     // What is known of the bytes so far.
     pub fn status(&self) -> Status
-        ensures is { result ≡ status_at self.now.levels self.now.place }
-        ensures says { (b : List ℕ) → Gone self.now b → Says b result }
+        ensures { (b : List ℕ) → Gone self.now b → StatusSays b result }
     {
-        match self.place {
-            Place::Nowhere => Status::Dead,
-            Place::Tag if self.levels == Progress::MAX_DEPTH => Status::Ends,
+        match self.position {
+            Position::Nowhere => Status::Dead,
+            Position::Tag if self.levels == Reader::MAX_DEPTH => Status::Ends,
             _ => Status::Within,
         }
     }
 
-    // Goes over the contents of a primitive element, at most so many bytes, whatever they are; answers how many.
+    // Skips the contents of a primitive element, at most `most` bytes, without reading them; answers how many it skipped.
     pub fn skip(&mut self, most: usize) -> usize
         ensures { Skipped self.old most result self.new }
     {
-        let place = self.place;
-        let Place::Contents { left } = place else {
+        let position = self.position;
+        let Position::Contents { left } = position else {
             return 0;
         };
-        let over = most.min(usize::from(left));
+        let over = left.min(u16::try_from(most).unwrap_or(u16::MAX));
         if over == 0 {
             return 0;
         }
-        self.place = Place::Contents {
-            left: left - over as u16,
-        };
+        self.position = Position::Contents { left: left - over };
         self.settle();
-        over
+        usize::from(over)
     }
 }
 
-// Where malformed bytes are malformed, and none if they read as a row.
-pub fn ill_place(bytes: &[u8]) -> Option<usize>
-    ensures { Placed bytes.now result }
+// Where malformed bytes are malformed, or none if they are a row.
+pub(crate) fn ill_place(bytes: &[u8]) -> Option<usize>
+    ensures { IllPlace bytes.now result }
 {
     let mut reader = Progress::new();
     let mut rest = bytes;
@@ -146,11 +142,4 @@ pub fn ill_place(bytes: &[u8]) -> Option<usize>
         Status::Ends => None,
         _ => Some(bytes.len()),
     }
-}
-
-// Malformed bytes have exactly one place.
-pub fn one_place_stands() -> u8
-    ensures { OnePlace deepest longest }
-{
-    0
 }

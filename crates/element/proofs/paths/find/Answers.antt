@@ -1,5 +1,5 @@
 use Rattle.std.proofs.Common.{arith}
-use Rattle.element.proofs.Walks.{led_nowhere, led_inside, led_last, ran_none, ran_some, ran_near, outer_number, last_number, no_number, inside_none}
+use Rattle.element.proofs.Walks.{led_nowhere, led_inside, led_last, ran_none, ran_some, outer_number, last_number, no_number, inside_none}
 use Rattle.element.proofs.paths.find.Goals as goal
 
 pub returns-in_err-last : goal.returns-in_err-last
@@ -20,9 +20,9 @@ loop-number-preserved c =
     let o = outer_number _ _ _ _ c.in_ok-last.ensures.cases.0 c.loop-number-test.true in
     let ran = c.in_ok-nth.ensures.ran in
     let (high, rest, place) = c.in_ok-cursor.ensures in
-    led_inside _ _ _ _ c.loop-number.invariant _ o.0 o.1 c.in_ok-nth.field-0 c.in_ok-cursor.cursor rest place (omega (arith, ran_near _ _ _ _ ran)) high (ran_some _ _ _ _ ran)
+    led_inside _ _ _ _ c.loop-number.invariant _ o.0 o.1 c.in_ok-nth.field-0 c.in_ok-cursor.cursor rest place high (ran_some _ _ _ _ ran)
 
 pub returns : goal.returns
 returns c =
     let o = last_number _ _ _ c.loop-number.number-index c.in_ok-last.ensures.cases.0 (omega arith) in
-    led_last _ _ _ _ c.loop-number.invariant _ o.0 o.1 c.in-Ok.ensures _ _ c.nth-2.ensures.ran
+    led_last _ _ _ _ c.loop-number.invariant _ o.0 o.1 c.in-Well.ensures _ _ c.nth-2.ensures.ran

@@ -1,5 +1,0 @@
-use Rattle.element.proofs.Walks.{piece_means}
-use Rattle.element.proofs.paths.piece_means_stands.Goals as goal
-
-pub returns : goal.returns
-returns c = piece_means
