@@ -1,4 +1,4 @@
--- A permit is well-formed, and is that of one certificate. Assumes nothing.
+-- A permit is well-formed, and is that of one certificate.
 use Rattle.std.proofs.Common.{◌≡◌, ℕ, suc, ◌-◌, ◌^◌, ◌<◌, Bool, true, false, List, [], ◌∷◌, ◌++◌, length, get_or, take, drop, Some, None, is_ok, Ok, Err, Result, sym, refl, ap, ◌∙◌, subst, append_assoc, append-nil, arith}
 use Rattle.std.proofs.lemmas.Bool.{false≢true}
 use mir.Val.{bool_byte}
@@ -6,14 +6,14 @@ use Rattle.format.specs.Elements.{Row, empty, primitive, framed, written, well_f
 use Rattle.format.proofs.Fronts.{same_front}
 use Rattle.format.proofs.Rows.{primitive_from, constructed_from, framed_size}
 use Rattle.trust.specs.Chains.{Certificate}
-use Rattle.element.specs.Judged.{longest}
+use Rattle.element.specs.Limits.{deepest, longest}
 use Rattle.element.specs.declared.writing.WriteError.{WriteError}
 use Rattle.element.specs.Appended.{Appended as Writes}
-use Rattle.certificate.specs.Numbers.{four_bytes, number_bytes, number_size}
-use Rattle.certificate.specs.Permits.{mark_bytes, fields_row, permit_row, permit_bytes, certificate_of, InRange}
-use Rattle.certificate.specs.Fields.{Appended}
+use Rattle.certificate.specs.Numbers.{number_bytes, number_size}
+use Rattle.certificate.specs.Permits.{flag_bytes, fields_row, permit_row, permit_bytes, certificate_of, InRange}
+use Rattle.certificate.specs.inner.Fields.{AppendedField}
 use Rattle.certificate.specs.Promise.{OnePermit, PermitReads, DecodesBack}
-use Rattle.certificate.proofs.Digits.{same_number, few_bytes, bytes_all, number_part}
+use Rattle.certificate.proofs.Digits.{four_bytes, same_number, few_bytes, bytes_all, number_part}
 use Rattle.certificate.proofs.Tails.{tagged, bit, bit_bytes, bit_below, numbers_of, fields_are, below}
 use Rattle.certificate.proofs.Wholes.{permit_is, fields_few}
 
@@ -59,7 +59,7 @@ module _ (d : ℕ) where
   number_well : (t n : ℕ) (r : Row) → t < 128 → n < 2 ^ 32 → well_formed d longest r ≡ true → well_formed d longest (primitive t (number_bytes n) r) ≡ true
   number_well t n r low h e = primitive_from d longest t (number_bytes n) r (record { low = low; bytes = bytes_all n h; fits = omega (arith, few_bytes n h); rest = e })
 
-  mark_well : (b : Bool) (r : Row) → well_formed d longest r ≡ true → well_formed d longest (primitive 5 (mark_bytes b) r) ≡ true
+  mark_well : (b : Bool) (r : Row) → well_formed d longest r ≡ true → well_formed d longest (primitive 5 (flag_bytes b) r) ≡ true
   mark_well b r e = subst (λ l. well_formed d longest (primitive 5 l r) ≡ true) (bit_bytes b) (number_well 5 (bit b) r (omega arith) (bit_below b) e)
 
   end_well : well_formed d longest empty ≡ true
@@ -81,7 +81,7 @@ fields_read d c h = record { well = fields_well d c h; writing = refl }
 
 pub permit_reads : PermitReads
 unfolding permit_row
-permit_reads c h = record { well = constructed_from 7 longest 128 (fields_row c) empty (omega arith) (omega arith) (omega (arith, fields_few c h)) (fields_well 7 c h) (end_well 8); writing = refl }
+permit_reads c h = record { well = constructed_from (deepest - 1) longest 128 (fields_row c) empty (omega arith) (omega arith) (omega (arith, fields_few c h)) (fields_well (deepest - 1) c h) (end_well deepest); writing = refl }
 
 -- what was written, where writing succeeded
 pub written_behind : (T C : Type 0) (tag : ℕ) (contents old new : List ℕ) (r : Result Unit WriteError) → Writes T C tag contents old new r → is_ok r ≡ true → new ≡ old ++ framed tag contents
@@ -93,7 +93,7 @@ pub permit_written : (c : Certificate) (v w fields : List ℕ) → v ≡ [] → 
 permit_written c v w fields e f g = g ∙ (λ i. e i ++ framed 128 (f i)) ∙ sym (append-nil (framed 128 (written (fields_row c)))) ∙ sym (permit_is c)
 
 -- the part of the four bytes that a number is, written as a field
-pub number_written : (tag t n size : ℕ) (bytes old new : List ℕ) → t ≡ tag → n < 2 ^ 32 → size ≡ number_size n → bytes ≡ four_bytes n → new ≡ old ++ framed t (take (4 - (4 - size)) (drop (4 - size) bytes)) → Appended tag n old new
+pub number_written : (tag t n size : ℕ) (bytes old new : List ℕ) → t ≡ tag → n < 2 ^ 32 → size ≡ number_size n → bytes ≡ four_bytes n → new ≡ old ++ framed t (take (4 - (4 - size)) (drop (4 - size) bytes)) → AppendedField tag n old new
 number_written tag t n size bytes old new s h e f g = record { range = h; behind = g ∙ (λ i. old ++ framed (s i) (number_part n size bytes h e f i)) }
 
 -- a field more behind the bytes
@@ -107,8 +107,8 @@ byte_bit false = refl
 -- six fields written behind nothing, one after the other
 pub six_written : (c : Certificate) (n : ℕ) {v v₁ v₂ v₃ v₄ v₅ v₆ : List ℕ}
     → n ≡ bool_byte c.may_issue → v ≡ []
-    → Appended 1 c.subject v v₁ → Appended 2 c.issuer v₁ v₂ → Appended 3 c.not_before v₂ v₃
-    → Appended 4 c.not_after v₃ v₄ → Appended 5 n v₄ v₅ → Appended 6 c.path_len v₅ v₆
+    → AppendedField 1 c.subject v v₁ → AppendedField 2 c.issuer v₁ v₂ → AppendedField 3 c.not_before v₂ v₃
+    → AppendedField 4 c.not_after v₃ v₄ → AppendedField 5 n v₄ v₅ → AppendedField 6 c.path_len v₅ v₆
     → InRange c × (v₆ ≡ written (fields_row c))
 six_written c n {v} {v₁} {v₂} {v₃} {v₄} {v₅} {v₆} m e e₁ e₂ e₃ e₄ e₅ e₆ =
     let mark = m ∙ byte_bit c.may_issue in (

@@ -1,4 +1,4 @@
--- The fields of a permit, one behind the other, and what is ahead behind some of them. Assumes nothing.
+-- The fields of a permit, one behind the other, and what is ahead behind some of them.
 use Rattle.std.proofs.Common.{◌≡◌, ℕ, zero, suc, ◌^◌, ◌<◌, Bool, true, false, cond, eqb, List, [], ◌∷◌, ◌++◌, length, get_or, drop, Some, None, Option, sym, refl, ap, ◌∙◌, arith}
 use Rattle.std.proofs.lemmas.List.{nil_from_length}
 use Rattle.std.proofs.lemmas.Bool.{eqb-true, eqb-false}
@@ -9,10 +9,10 @@ use Rattle.trust.specs.Chains.{Certificate}
 use Rattle.element.specs.declared.walking.Cursor.{Cursor}
 use Rattle.element.specs.declared.walking.Element.{Element}
 use Rattle.element.specs.Cursors.{ahead, Passes}
-use Rattle.element.proofs.Walks.{split, same_end}
-use Rattle.certificate.specs.Numbers.{big_endian, number_bytes, Numbered}
-use Rattle.certificate.specs.Permits.{mark_bytes, marked, fields_row, InRange}
-use Rattle.certificate.specs.Fields.{Says, Field}
+use Rattle.element.proofs.Walks.{split}
+use Rattle.certificate.specs.Numbers.{big_endian, number_bytes}
+use Rattle.certificate.specs.Permits.{flag_bytes, fields_row, InRange}
+use Rattle.certificate.specs.inner.Fields.{Numbered, flag_of, SaysField, NextField}
 use Rattle.certificate.proofs.Digits.{same_number}
 
 -- fields that say numbers, from a tag on
@@ -27,11 +27,11 @@ bit b = cond b 1 0
 abbrev pub numbers_of : Certificate → List ℕ
 numbers_of c = c.subject ∷ (c.issuer ∷ (c.not_before ∷ (c.not_after ∷ (bit c.may_issue ∷ (c.path_len ∷ [])))))
 
--- the fields behind the first so many
+-- the fields behind the first k
 abbrev pub past : ℕ → Certificate → List ℕ
 past k c = tagged (suc k) (drop k (numbers_of c))
 
-pub bit_bytes : (b : Bool) → number_bytes (bit b) ≡ mark_bytes b
+pub bit_bytes : (b : Bool) → number_bytes (bit b) ≡ flag_bytes b
 unfolding number_bytes big_endian
 bit_bytes true = refl
 bit_bytes false = refl
@@ -65,11 +65,11 @@ below c h (suc (suc (suc (suc (suc zero))))) = h.path_len
 below c h (suc (suc (suc (suc (suc (suc k)))))) = omega arith
 
 -- what a number says that stands for yes or no
-bit_marked : (b : Bool) → marked (bit b) ≡ None → ⊥
+bit_marked : (b : Bool) → flag_of (bit b) ≡ None → ⊥
 bit_marked true e = let z : ◌≡◌ {A = ℕ} 0 1 = cc in omega arith
 bit_marked false e = let z : ◌≡◌ {A = ℕ} 0 1 = cc in omega arith
 
-mark_bit : (n : ℕ) (m : Bool) → Some m ≡ marked n → n ≡ bit m
+mark_bit : (n : ℕ) (m : Bool) → Some m ≡ flag_of n → n ≡ bit m
 mark_bit n m e = grind (arith, nat_tests)
 
 -- behind the first k fields: whatever certificate the fields from the start say, those ahead are its others
@@ -84,55 +84,55 @@ abbrev pub Fieldless : Cursor → Type 0
 Fieldless s = (p : Certificate) → InRange p → written (fields_row p) ≡ ahead s → ⊥
 
 module _ {s c : Cursor} (k : ℕ) (few : k < 6) (left : Left s k c) where
-  same_field : {n : ℕ} {d : Cursor} → Says c (suc k) n d → (p : Certificate) → InRange p → written (fields_row p) ≡ ahead s → (number_bytes (get_or (numbers_of p) k 0) ≡ number_bytes n) × (past (suc k) p ≡ ahead d)
+  same_field : {n : ℕ} {d : Cursor} → SaysField c (suc k) n d → (p : Certificate) → InRange p → written (fields_row p) ≡ ahead s → (number_bytes (get_or (numbers_of p) k 0) ≡ number_bytes n) × (past (suc k) p ≡ ahead d)
   same_field {n} {d} says p r e =
       let f = same_front (suc k) (suc k) (number_bytes (get_or (numbers_of p) k 0)) (number_bytes n) (past (suc k) p) (ahead d) (sym (past_more k p few) ∙ left.on p r e ∙ says.front) in
       (f.1, f.2)
 
-  left_more : {n : ℕ} {d : Cursor} → Says c (suc k) n d → Left s (suc k) d
+  left_more : {n : ℕ} {d : Cursor} → SaysField c (suc k) n d → Left s (suc k) d
   left_more says = record { on = λ p r e. (same_field says p r e).1 }
 
   pub left_none : ((n : ℕ) (behind : List ℕ) → n < 2 ^ 32 → ahead c ≡ framed (suc k) (number_bytes n) ++ behind → ⊥) → Fieldless s
   left_none none p r e = none (get_or (numbers_of p) k 0) (past (suc k) p) (below p r k) (sym (left.on p r e) ∙ past_more k p few)
 
-  left_same : {n : ℕ} {d : Cursor} → Says c (suc k) n d → (p : Certificate) → InRange p → written (fields_row p) ≡ ahead s → get_or (numbers_of p) k 0 ≡ n
+  left_same : {n : ℕ} {d : Cursor} → SaysField c (suc k) n d → (p : Certificate) → InRange p → written (fields_row p) ≡ ahead s → get_or (numbers_of p) k 0 ≡ n
   left_same {n} says p r e = same_number (get_or (numbers_of p) k 0) n (below p r k) says.range (same_field says p r e).0
 
 -- a field before those that are ahead of the next cursor
-said : {c d : Cursor} {t n : ℕ} (ns : List ℕ) → Says c t n d → tagged (suc t) ns ≡ ahead d → tagged t (n ∷ ns) ≡ ahead c
+said : {c d : Cursor} {t n : ℕ} (ns : List ℕ) → SaysField c t n d → tagged (suc t) ns ≡ ahead d → tagged t (n ∷ ns) ≡ ahead c
 said {c} {d} {t} {n} ns says e = ap (λ l. framed t (number_bytes n) ++ l) e ∙ sym says.front
 
-module _ {s c₁ : Cursor} {n₁ : ℕ} (one : Says s 1 n₁ c₁) where
+module _ {s c₁ : Cursor} {n₁ : ℕ} (one : SaysField s 1 n₁ c₁) where
   pub left_1 : Left s 1 c₁
   left_1 = left_more 0 (omega arith) (left_start s) one
 
-  module _ {c₂ : Cursor} {n₂ : ℕ} (two : Says c₁ 2 n₂ c₂) where
+  module _ {c₂ : Cursor} {n₂ : ℕ} (two : SaysField c₁ 2 n₂ c₂) where
     pub left_2 : Left s 2 c₂
     left_2 = left_more 1 (omega arith) left_1 two
 
-    module _ {c₃ : Cursor} {n₃ : ℕ} (three : Says c₂ 3 n₃ c₃) where
+    module _ {c₃ : Cursor} {n₃ : ℕ} (three : SaysField c₂ 3 n₃ c₃) where
       pub left_3 : Left s 3 c₃
       left_3 = left_more 2 (omega arith) left_2 three
 
-      module _ {c₄ : Cursor} {n₄ : ℕ} (four : Says c₃ 4 n₄ c₄) where
+      module _ {c₄ : Cursor} {n₄ : ℕ} (four : SaysField c₃ 4 n₄ c₄) where
         pub left_4 : Left s 4 c₄
         left_4 = left_more 3 (omega arith) left_3 four
 
-        module _ {c₅ : Cursor} {n₅ : ℕ} (five : Says c₄ 5 n₅ c₅) where
+        module _ {c₅ : Cursor} {n₅ : ℕ} (five : SaysField c₄ 5 n₅ c₅) where
           pub left_5 : Left s 5 c₅
           left_5 = left_more 4 (omega arith) left_4 five
 
           -- a fifth field that is no mark
-          pub no_mark : None ≡ marked n₅ → Fieldless s
-          no_mark none p r e = bit_marked p.may_issue (ap marked (left_same 4 (omega arith) left_4 five p r e) ∙ sym none)
+          pub no_mark : None ≡ flag_of n₅ → Fieldless s
+          no_mark none p r e = bit_marked p.may_issue (ap flag_of (left_same 4 (omega arith) left_4 five p r e) ∙ sym none)
 
-          module _ {c₆ : Cursor} {n₆ : ℕ} (six : Says c₅ 6 n₆ c₆) where
+          module _ {c₆ : Cursor} {n₆ : ℕ} (six : SaysField c₅ 6 n₆ c₆) where
             -- something behind the sixth field
             pub more_behind : eqb (length (ahead c₆)) 0 ≡ false → Fieldless s
             more_behind some p r e = eqb-false (length (ahead c₆)) 0 some (sym (ap length ((left_more 5 (omega arith) left_5 six).on p r e)))
 
             -- nothing behind it
-            pub six_fields : eqb (length (ahead c₆)) 0 ≡ true → (m : Bool) → Some m ≡ marked n₅ → tagged 1 (n₁ ∷ (n₂ ∷ (n₃ ∷ (n₄ ∷ (bit m ∷ (n₆ ∷ [])))))) ≡ ahead s
+            pub six_fields : eqb (length (ahead c₆)) 0 ≡ true → (m : Bool) → Some m ≡ flag_of n₅ → tagged 1 (n₁ ∷ (n₂ ∷ (n₃ ∷ (n₄ ∷ (bit m ∷ (n₆ ∷ [])))))) ≡ ahead s
             six_fields none m e =
                 ap (λ n. tagged 1 (n₁ ∷ (n₂ ∷ (n₃ ∷ (n₄ ∷ (n ∷ (n₆ ∷ []))))))) (sym (mark_bit n₅ m e))
                 ∙ said (n₂ ∷ (n₃ ∷ (n₄ ∷ (n₅ ∷ (n₆ ∷ []))))) one (said (n₃ ∷ (n₄ ∷ (n₅ ∷ (n₆ ∷ [])))) two (said (n₄ ∷ (n₅ ∷ (n₆ ∷ []))) three (said (n₅ ∷ (n₆ ∷ [])) four (said (n₆ ∷ []) five (said [] six (sym (nil_from_length (ahead c₆) (eqb-true (length (ahead c₆)) 0 none))))))))
@@ -142,9 +142,9 @@ module _ (c : Cursor) (e : Element) (after : Cursor) (p : Passes c e after) (tag
   same_parts : (n : ℕ) (behind : List ℕ) → ahead c ≡ framed tag (number_bytes n) ++ behind → (e.tag ≡ tag) × (e.contents.now ≡ number_bytes n) × (ahead after ≡ behind)
   same_parts n behind k = same_front e.tag tag e.contents.now (number_bytes n) (ahead after) behind (sym (split p) ∙ k)
 
-  pub field_read : e.tag ≡ tag → (r : Option ℕ) → Numbered e.contents.now r → Field c tag r after
+  pub field_read : e.tag ≡ tag → (r : Option ℕ) → Numbered e.contents.now r → NextField c tag r after
   field_read same (Some n) h =
-      record { range = h.0; front = split p ∙ (λ i. framed (same i) (sym h.1 i) ++ ahead after); end = same_end p }
+      record { range = h.0; front = split p ∙ (λ i. framed (same i) (sym h.1 i) ++ ahead after) }
   field_read same None none = λ n behind h k. none n h (sym (same_parts n behind k).1)
 
   pub field_other : (e.tag ≡ tag → ⊥) → (n : ℕ) (behind : List ℕ) → ahead c ≡ framed tag (number_bytes n) ++ behind → ⊥

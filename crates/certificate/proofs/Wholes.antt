@@ -1,4 +1,4 @@
--- The one element that is a permit. Assumes nothing.
+-- The one element that is a permit.
 use Rattle.std.proofs.Common.{◌≡◌, ℕ, suc, ◌*◌, ◌^◌, ◌<◌, ◌≤◌, true, false, eqb, List, [], ◌∷◌, ◌++◌, length, get_or, Some, None, Option, sym, refl, ap, ◌∙◌, arith, length-append}
 use Rattle.std.proofs.lemmas.List.{nil_from_length}
 use Rattle.std.proofs.lemmas.Bool.{eqb-true, eqb-false}
@@ -10,11 +10,11 @@ use Rattle.element.specs.declared.walking.Cursor.{Cursor}
 use Rattle.element.specs.declared.walking.Element.{Element}
 use Rattle.element.specs.Cursors.{ahead, Passes}
 use Rattle.element.proofs.Walks.{split}
-use Rattle.element.specs.Judged.{longest}
+use Rattle.element.specs.Limits.{longest}
 use Rattle.certificate.specs.declared.Certificate.{Certificate as Held}
 use Rattle.certificate.specs.Numbers.{number_bytes}
 use Rattle.certificate.specs.Permits.{fields_row, permit_row, permit_bytes, certificate_of, InRange, Decoded}
-use Rattle.certificate.specs.Fields.{Fields}
+use Rattle.certificate.specs.inner.Fields.{AllFields}
 use Rattle.certificate.proofs.Digits.{few_bytes}
 use Rattle.certificate.proofs.Tails.{tagged, numbers_of, fields_are, below}
 
@@ -56,7 +56,7 @@ module _ (b : List ℕ) (s : Cursor) (e : Element) (after : Cursor) (start : ahe
   one_behind some c h k = eqb-false (length (ahead after)) 0 some (ap length (parts c k).2)
 
   module _ (tag : e.tag ≡ 128) (last : eqb (length (ahead after)) 0 ≡ true) (inner : Cursor) (within : ahead inner ≡ e.contents.now) where
-    pub whole : (r : Option Held) → Fields inner r → Decoded b r
+    pub whole : (r : Option Held) → AllFields inner r → Decoded b r
     whole (Some h) k =
         let none : ahead after ≡ [] = nil_from_length (ahead after) (eqb-true (length (ahead after)) 0 last) in
         let same : e.contents.now ≡ written (fields_row (certificate_of h)) = sym (k.1 ∙ within) in

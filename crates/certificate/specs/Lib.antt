@@ -1,4 +1,4 @@
-pub mod Fields
+pub mod inner
 pub mod Numbers
 pub mod Permits
 pub mod Promise

@@ -1,5 +1,5 @@
--- The bytes of a permit. Assumes nothing: these are definitions.
-use Rattle.std.specs.Prelude.{◌≡◌, ℕ, ◌^◌, ◌<◌, Bool, true, false, cond, List, [], ◌∷◌, Some, None, Option, ◌==◌, ◌≢◌}
+-- The bytes of a permit.
+use Rattle.std.specs.Prelude.{◌≡◌, ℕ, ◌^◌, ◌<◌, Bool, cond, List, [], ◌∷◌, Some, None, Option, ◌≢◌}
 use Rattle.format.specs.Elements.{Row, empty, primitive, constructed, written}
 use Rattle.trust.specs.Chains.{Certificate}
 use Rattle.certificate.specs.declared.Certificate.{Certificate as Held}
@@ -7,15 +7,11 @@ use Rattle.certificate.specs.declared.Tag.{Tag}
 use Rattle.certificate.specs.declared.Tag.TheVariants.{Subject, Issuer, NotBefore, NotAfter, MayIssue, PathLen}
 use Rattle.certificate.specs.Numbers.{number_bytes}
 
--- a yes or no is one byte, 1 or 0
-abbrev pub mark_bytes : Bool → List ℕ
-mark_bytes b = cond b 1 0 ∷ []
+-- a yes or no is one byte: 1 for yes, 0 for no
+abbrev pub flag_bytes : Bool → List ℕ
+flag_bytes b = cond b 1 0 ∷ []
 
--- what a number says that stands for yes or no
-abbrev pub marked : ℕ → Option Bool
-marked n = cond (n == 0) (Some false) (cond (n == 1) (Some true) None)
-
--- the byte that a tag is
+-- the byte of a tag
 abbrev pub tag_of : Tag → ℕ
 tag_of Subject = 1
 tag_of Issuer = 2
@@ -31,10 +27,10 @@ fields_row c =
     (primitive 2 (number_bytes c.issuer)
     (primitive 3 (number_bytes c.not_before)
     (primitive 4 (number_bytes c.not_after)
-    (primitive 5 (mark_bytes c.may_issue)
+    (primitive 5 (flag_bytes c.may_issue)
     (primitive 6 (number_bytes c.path_len) empty)))))
 
--- one element with the tag 128, in which the fields stand
+-- a permit is one constructed element with the tag 128, its contents the fields
 unfoldable pub permit_row : Certificate → Row
 permit_row c = constructed 128 (fields_row c) empty
 
@@ -42,7 +38,7 @@ permit_row c = constructed 128 (fields_row c) empty
 abbrev pub permit_bytes : Certificate → List ℕ
 permit_bytes c = written (permit_row c)
 
--- each number of the certificate can be written in four bytes
+-- each number of the certificate fits into four bytes
 pub record InRange (c : Certificate) : Type 0 where
   pub subject : c.subject < 2 ^ 32
   pub issuer : c.issuer < 2 ^ 32
@@ -50,7 +46,7 @@ pub record InRange (c : Certificate) : Type 0 where
   pub not_after : c.not_after < 2 ^ 32
   pub path_len : c.path_len < 2 ^ 32
 
--- what a certificate in memory says
+-- the certificate that the struct of the code stands for
 abbrev pub certificate_of : Held → Certificate
 certificate_of h = record {
   subject = h.subject;
@@ -61,7 +57,7 @@ certificate_of h = record {
   path_len = h.path_len;
 }
 
--- the certificate whose bytes these are, or none exactly if they are no permit
+-- the certificate whose bytes these are; none exactly if they are no permit
 abbrev pub Decoded : List ℕ → Option Held → Type 0
 Decoded b (Some h) = InRange (certificate_of h) × (permit_bytes (certificate_of h) ≡ b)
 Decoded b None = (c : Certificate) → InRange c → permit_bytes c ≢ b

@@ -1,38 +1,36 @@
-// Permits decoded.
-ghost use Rattle.std.specs.Prelude.{◌≡◌, length, ◌==◌};
-ghost use Rattle.element.specs.Cursors.{PlacesFit, ahead};
-ghost use Rattle.certificate.specs.Fields.{Field, Fields};
-ghost use Rattle.certificate.specs.Permits.{Decoded, marked, tag_of};
+// Permits decoded: a certificate from its bytes.
+ghost use Rattle.std.specs.Prelude.{◌≡◌};
+ghost use Rattle.certificate.specs.inner.Fields.{NextField, AllFields, flag_of};
+ghost use Rattle.certificate.specs.Permits.{Decoded, tag_of};
 
 use crate::numbering::read_number;
 use crate::{Certificate, Tag};
 use element::Cursor;
 
-// The certificate that the bytes say, if they are a permit and nothing else.
+// The certificate whose permit the bytes are; None if they are no permit, or a permit and more. The format is in docs/FORMAT.md, "Permits".
 pub fn decode(bytes: &[u8]) -> Option<Certificate>
     ensures { Decoded bytes.now result }
 {
     let mut row = Cursor::new(bytes);
     let permit = row.next()?;
-    if permit.tag != Certificate::PERMIT || !at_end(&row) {
+    if permit.tag != Certificate::PERMIT || !row.is_empty() {
         return None;
     }
-    fields(permit.inside())
+    fields(permit.row()?)
 }
 
-// The certificate that the fields ahead say, if they are those of a permit and nothing else.
+// The certificate whose fields are all that is ahead; None if there is no such certificate.
 fn fields(start: Cursor<'_>) -> Option<Certificate>
-    requires { PlacesFit start }
-    ensures { Fields start.entry result }
+    ensures { AllFields start.entry result }
 {
     let mut fields = start;
     let subject = number(&mut fields, Tag::Subject)?;
     let issuer = number(&mut fields, Tag::Issuer)?;
     let not_before = number(&mut fields, Tag::NotBefore)?;
     let not_after = number(&mut fields, Tag::NotAfter)?;
-    let may_issue = mark(number(&mut fields, Tag::MayIssue)?)?;
+    let may_issue = flag(number(&mut fields, Tag::MayIssue)?)?;
     let path_len = number(&mut fields, Tag::PathLen)?;
-    if !at_end(&fields) {
+    if !fields.is_empty() {
         return None;
     }
     Some(Certificate {
@@ -45,11 +43,10 @@ fn fields(start: Cursor<'_>) -> Option<Certificate>
     })
 }
 
-// The number that the next field says, if it has this tag and says one.
+// The number in the next field; None if it has another tag, no number, or isn't there.
 #[tactic(auto, using(crate::proofs::Digits::few_bytes, crate::proofs::Tails::field_read))]
 fn number(fields: &mut Cursor<'_>, tag: Tag) -> Option<u32>
-    requires { PlacesFit fields.old }
-    ensures { Field fields.old (tag_of tag) result fields.new }
+    ensures { NextField fields.old (tag_of tag) result fields.new }
 {
     let field = fields.next()?;
     if field.tag != u8::from(tag) {
@@ -58,16 +55,9 @@ fn number(fields: &mut Cursor<'_>, tag: Tag) -> Option<u32>
     read_number(field.contents)
 }
 
-// Whether nothing is ahead.
-fn at_end(cursor: &Cursor<'_>) -> bool
-    ensures { result ≡ (length (ahead cursor.now) == 0) }
-{
-    cursor.rest.is_empty()
-}
-
-// What a mark says: 0 no, 1 yes, and nothing else is a mark.
-fn mark(value: u32) -> Option<bool>
-    ensures { result ≡ marked value }
+// What a flag says: 0 no, 1 yes; None if it is neither.
+fn flag(value: u32) -> Option<bool>
+    ensures { result ≡ flag_of value }
 {
     match value {
         0 => Some(false),

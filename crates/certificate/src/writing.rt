@@ -1,7 +1,7 @@
-// Permits encoded.
+// Permits encoded: the bytes of a certificate.
 ghost use Rattle.std.specs.Prelude.{◌≡◌, IsOk, IsErr, IfOk, OnOk, OnErr};
 ghost use Rattle.format.specs.Elements.{written};
-ghost use Rattle.certificate.specs.Fields.{Appended, ByMemory};
+ghost use Rattle.certificate.specs.inner.Fields.{AppendedField, OnlyMemory};
 ghost use Rattle.certificate.specs.Permits.{InRange, certificate_of, fields_row, permit_bytes, tag_of};
 
 use crate::numbering::{MAX_BYTES, size_of};
@@ -9,18 +9,18 @@ use crate::{Certificate, Tag};
 use element::{WriteError, append_constructed, append_primitive};
 use std::alloc::{AllocError, Global};
 
-// The bytes of a certificate, or want of memory.
+// The permit of a certificate: its bytes, at most 35. The only error is out of memory.
 #[tactic(auto, using(crate::proofs::Laws::permit_written, crate::proofs::Laws::written_behind, crate::proofs::Laws::fields_read, crate::proofs::Wholes::fields_few))]
 pub fn encode(heap: Global, c: &Certificate) -> Result<Vec<u8>, AllocError>
     ensures { IfOk result (λ v. v.items ≡ permit_bytes (certificate_of c.now)) }
 {
     let fields = fields(heap, c)?;
     let mut out = Vec::new(heap);
-    by_memory(append_constructed(&mut out, Certificate::PERMIT, &fields))?;
+    only_memory(append_constructed(&mut out, Certificate::PERMIT, &fields))?;
     Ok(out)
 }
 
-// The fields of a certificate, one behind the other.
+// The bytes of the six fields of a certificate.
 fn fields(heap: Global, c: &Certificate) -> Result<Vec<u8>, AllocError>
     ensures { IfOk result (λ v. InRange (certificate_of c.now) × (v.items ≡ written (fields_row (certificate_of c.now)))) }
 {
@@ -34,19 +34,19 @@ fn fields(heap: Global, c: &Certificate) -> Result<Vec<u8>, AllocError>
     Ok(out)
 }
 
-// Writes a field that says a number behind the bytes.
+// Appends a field with a number to the bytes.
 #[tactic(auto, using(crate::proofs::Laws::number_written, crate::proofs::Laws::written_behind))]
 fn append_number(out: &mut Vec<u8>, tag: Tag, value: u32) -> Result<(), AllocError>
-    ensures { OnOk result (Appended (tag_of tag) value out.old.items out.new.items) }
+    ensures { OnOk result (AppendedField (tag_of tag) value out.old.items out.new.items) }
 {
     let bytes = value.to_be_bytes();
     let start = MAX_BYTES - size_of(value);
-    by_memory(append_primitive(out, u8::from(tag), &bytes[start..]))
+    only_memory(append_primitive(out, u8::from(tag), &bytes[start..]))
 }
 
-// What came of writing, where only memory can have failed.
-fn by_memory(done: Result<(), WriteError>) -> Result<(), AllocError>
-    requires { ByMemory done }
+// The same result, where the only error can be out of memory.
+fn only_memory(done: Result<(), WriteError>) -> Result<(), AllocError>
+    requires { OnlyMemory done }
     ensures ok { OnOk result (IsOk done) }
     ensures err { OnErr result (IsErr done) }
 {

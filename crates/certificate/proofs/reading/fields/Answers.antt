@@ -23,11 +23,11 @@ returns-in_err-may_issue c = rw c.from_residual-in_err-may_issue.ensures (no_mar
 pub returns-in_err-path_len : goal.returns-in_err-path_len
 returns-in_err-path_len c = rw c.from_residual-in_err-path_len.ensures (left_none 5 (omega arith) (left_5 c.in_ok-subject.ensures c.in_ok-issuer.ensures c.in_ok-not_before.ensures c.in_ok-not_after.ensures c.in_ok-number.ensures) c.in_err-path_len.ensures)
 
-pub returns-then-not-at_end : goal.returns-then-not-at_end
-returns-then-not-at_end c = more_behind c.in_ok-subject.ensures c.in_ok-issuer.ensures c.in_ok-not_before.ensures c.in_ok-not_after.ensures c.in_ok-number.ensures c.in_ok-path_len.ensures (sym c.at_end.ensures ∙ c.if-not-at_end.true)
+pub returns-then-not-is_empty : goal.returns-then-not-is_empty
+returns-then-not-is_empty c = more_behind c.in_ok-subject.ensures c.in_ok-issuer.ensures c.in_ok-not_before.ensures c.in_ok-not_after.ensures c.in_ok-number.ensures c.in_ok-path_len.ensures (sym c.is_empty.ensures ∙ c.if-not-is_empty.true)
 
 pub returns : goal.returns
 returns c = (
   record { subject = c.in_ok-subject.ensures.range; issuer = c.in_ok-issuer.ensures.range; not_before = c.in_ok-not_before.ensures.range; not_after = c.in_ok-not_after.ensures.range; path_len = c.in_ok-path_len.ensures.range },
-  fields_are _ ∙ six_fields c.in_ok-subject.ensures c.in_ok-issuer.ensures c.in_ok-not_before.ensures c.in_ok-not_after.ensures c.in_ok-number.ensures c.in_ok-path_len.ensures (sym c.at_end.ensures ∙ c.if-not-at_end.false) c.in_ok-may_issue.may_issue c.in_ok-may_issue.ensures,
+  fields_are _ ∙ six_fields c.in_ok-subject.ensures c.in_ok-issuer.ensures c.in_ok-not_before.ensures c.in_ok-not_after.ensures c.in_ok-number.ensures c.in_ok-path_len.ensures (sym c.is_empty.ensures ∙ c.if-not-is_empty.false) c.in_ok-may_issue.may_issue c.in_ok-may_issue.ensures,
 )
