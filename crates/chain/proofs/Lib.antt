@@ -1,3 +1,4 @@
+pub mod CertificateViews
 pub mod Climbing
-pub mod Members
+pub mod Faults
 pub mod Tests

@@ -1,12 +1,12 @@
--- Tests over all numbers below a bound, and over all marks. Assumes nothing.
+-- Tests over all numbers below a bound, and over all marks.
 use Rattle.std.proofs.Common.{◌≡◌, ℕ, zero, suc, ◌+◌, ◌*◌, ◌/◌, ◌<◌, min, max, Bool, true, false, ◌&&◌, ◌||◌, eqb, leb, ltb, List, [], ◌∷◌, length, get_or, take, drop, sym, refl, ap, ◌∙◌, ⊎_elim, arith}
 use Rattle.std.proofs.lemmas.List.{get_or-take, get_or-drop, length-take-le}
 use Rattle.std.proofs.lemmas.Bool.{eq-eqb, ne_eqb, and_left, and_right, and_from, not_from_true, not_from_false, cases_eq, cases_lt, le-ltb}
 use Rattle.std.proofs.lemmas.Bool.Decides.{nat_tests}
 use Rattle.std.specs.List.{fold}
 use Rattle.std.specs.Simd.{first_chunks}
-use Rattle.chain.specs.Sixes.{First, none_below, all_marks, faulty}
-use Rattle.chain.specs.Places.{bad_mark}
+use Rattle.chain.specs.Places.{FirstWhere}
+use Rattle.chain.specs.Rejections.{above_one, none_below, all_marks, faulty}
 
 -- a test that fails below n holds nowhere below n
 none_from : (n : ℕ) (test : ℕ → Bool) → ((i : ℕ) → i < n → test i ≡ false) → none_below n test ≡ true
@@ -25,7 +25,7 @@ some_from (suc n) test i l h =
     (cases_eq i n)
 
 -- the first place is n exactly if the test holds nowhere below n
-pub first_decides : (n : ℕ) (test : ℕ → Bool) (r : ℕ) → First n test r → eqb r n ≡ none_below n test
+pub first_decides : (n : ℕ) (test : ℕ → Bool) (r : ℕ) → FirstWhere n test r → eqb r n ≡ none_below n test
 first_decides n test r f =
     ⊎_elim
     (λ e. eq-eqb r n e ∙ sym (none_from n test (λ i l. f.before i (omega arith))))
@@ -44,8 +44,8 @@ in_six zero xs i j l m = absurd (omega arith)
 in_six (suc k) xs zero j l m = get_or-take 6 xs j 0 m ∙ ap (λ n. get_or xs n 0) (omega arith)
 in_six (suc k) xs (suc i) j l m = in_six k (drop 6 xs) i j (omega arith) m ∙ get_or-drop 6 xs (6 * i + j) 0 ∙ ap (λ n. get_or xs n 0) (omega arith)
 
--- the first ill marked certificate among those there whole, of n at most, is the first faulty one below n
-pub first_of_sixes : (n : ℕ) (xs : List ℕ) (sixes : List (List ℕ)) (there r : ℕ) → sixes ≡ first_chunks 6 (length xs / 6) xs → length sixes ≡ length xs / 6 → there ≡ min n (length sixes) → First (length (take there sixes)) (λ i. bad_mark (get_or (take there sixes) i []) 4) r → First n (faulty xs) r
+-- the first certificate with a may_issue above 1 among those there whole, of n at most, is the first faulty one below n
+pub first_of_sixes : (n : ℕ) (xs : List ℕ) (sixes : List (List ℕ)) (there r : ℕ) → sixes ≡ first_chunks 6 (length xs / 6) xs → length sixes ≡ length xs / 6 → there ≡ min n (length sixes) → FirstWhere (length (take there sixes)) (λ i. above_one (get_or (take there sixes) i []) 4) r → FirstWhere n (faulty xs) r
 first_of_sixes n xs sixes there r e l t f =
     record {
       within = omega (arith, f.within, long);
@@ -59,7 +59,7 @@ first_of_sixes n xs sixes there r e l t f =
     long : length (take there sixes) ≡ there
     long = length-take-le there sixes (omega arith)
 
-    same : (i : ℕ) → i < there → bad_mark (get_or (take there sixes) i []) 4 ≡ faulty xs i
+    same : (i : ℕ) → i < there → above_one (get_or (take there sixes) i []) 4 ≡ faulty xs i
     same i u =
         let k = length xs / 6 in
         let whole : ltb (length xs) (6 * i + 6) ≡ false = le-ltb (length xs) (6 * i + 6) (omega arith) in

@@ -1,7 +1,6 @@
+pub mod CertificateViews
+pub mod Faults
 pub mod Inputs
-pub mod Known
-pub mod Members
 pub mod Places
 pub mod Rejections
-pub mod Sixes
 pub mod Views

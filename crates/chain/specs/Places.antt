@@ -1,18 +1,23 @@
--- Where numbers and marks are rejected, counted from 0. Assumes nothing: these are definitions.
-use Rattle.std.specs.Prelude.{◌≡◌, ℕ, ◌*◌, Bool, List, length, MatchBool, ◌==◌, nat_lt, slice_index}
-use Rattle.chain.specs.Sixes.{most, faulty, all_marks, First}
+-- Where the input of a pool is rejected; places are counted from 0.
+use Rattle.std.specs.Prelude.{◌≡◌, ℕ, ◌*◌, ◌<◌, ◌≤◌, Bool, true, false, length, MatchBool, ◌==◌, nat_lt}
+use Rattle.chain.specs.Inputs.{most, Input}
+use Rattle.chain.specs.Rejections.{above_one, all_marks, faulty}
 
--- the place of the numbers of n certificates: the most that are taken if there are more, else the first that is faulty, n if none is
-abbrev pub CertificatesPlace : (n : ℕ) → (certificates : List ℕ) → (r : ℕ) → Type 0
-CertificatesPlace n cs r = MatchBool (nat_lt most n) (r ≡ most) (First n (faulty cs) r)
+-- the first number below n at which the test holds, or n if there is none
+pub record FirstWhere (n : ℕ) (test : ℕ → Bool) (r : ℕ) : Type 0 where
+  pub within : r ≤ n
+  pub before : (i : ℕ) → i < r → test i ≡ false
+  pub found : r < n → test r ≡ true
 
--- a mark is neither 0 nor 1
-abbrev pub bad_mark : List ℕ → ℕ → Bool
-bad_mark xs i = nat_lt 1 (slice_index xs i)
+-- of certificates: `most` if there are more, else the first faulty one, or their count if none is
+abbrev pub CertificatesPlace : Input → (at : ℕ) → Type 0
+CertificatesPlace i at = MatchBool (nat_lt most i.count) (at ≡ most) (FirstWhere i.count (faulty i.certificates) at)
 
--- the place of the marks of n certificates: how many signature marks there are if that is wrong, else how many anchor marks if that is wrong, else the first bad mark, signatures before anchors, each counted in its own list; how many anchor marks there are if none is bad
-abbrev pub MarksPlace : (n : ℕ) → (signatures anchors : List ℕ) → (r : ℕ) → Type 0
-MarksPlace n ss ts r =
-    MatchBool (length ss == n * n)
-    (MatchBool (length ts == n) (MatchBool (all_marks ss) (First (length ts) (bad_mark ts) r) (First (length ss) (bad_mark ss) r)) (r ≡ length ts))
-    (r ≡ length ss)
+-- of marks: how many signature marks there are if that is wrong, else how many anchor marks if that is wrong, else the first bad mark, signatures before anchors, each counted in its own list; how many anchor marks there are if none is bad
+abbrev pub MarksPlace : Input → (at : ℕ) → Type 0
+MarksPlace i at =
+    MatchBool (length i.signatures == i.count * i.count)
+    (MatchBool (length i.anchors == i.count)
+    (MatchBool (all_marks i.signatures) (FirstWhere (length i.anchors) (above_one i.anchors) at) (FirstWhere (length i.signatures) (above_one i.signatures) at))
+    (at ≡ length i.anchors))
+    (at ≡ length i.signatures)

@@ -1,16 +1,15 @@
-// Whether the numbers and the marks of a pool are as they should be.
+// Whether the numbers and the marks of a pool are well-formed.
 ghost use Rattle.std.specs.Prelude.{◌≡◌, ◌*◌, ◌==◌, [], length, max, slice_index_or};
 ghost use Rattle.std.specs.List.{fold};
-ghost use Rattle.chain.specs.Inputs.{input_rejection};
-ghost use Rattle.chain.specs.Places.{bad_mark};
-ghost use Rattle.chain.specs.Sixes.{First, faulty, all_marks, certificates_well, marks_well};
+ghost use Rattle.chain.specs.Inputs.{input_of};
+ghost use Rattle.chain.specs.Places.{FirstWhere};
+ghost use Rattle.chain.specs.Rejections.{above_one, faulty, all_marks, certificates_well, marks_well, pool_rejection};
 
-use crate::input::{MAY_ISSUE, MOST, PoolInput, Rejection, SIX, YES};
+use crate::input::{MAY_ISSUE, MOST, NUMBERS, PoolInput, Rejection, YES};
 
-// The first of these certificates whose mark of who may issue is above 1, as many as they are if there is none.
-// A number, for it is a place. `first_bad` has the same line: one function for both would have the longer contract.
-fn first_ill_marked(sixes: &[[u32; SIX]]) -> usize
-    ensures { First (length sixes.now) (λ i. bad_mark (slice_index_or sixes.now i []) 4) result }
+// The first of these certificates whose may_issue is above 1; their number if there is none.
+fn first_bad_may_issue(sixes: &[[u32; NUMBERS]]) -> usize
+    ensures { FirstWhere (length sixes.now) (λ i. above_one (slice_index_or sixes.now i []) 4) result }
 {
     sixes
         .iter()
@@ -18,16 +17,16 @@ fn first_ill_marked(sixes: &[[u32; SIX]]) -> usize
         .unwrap_or(sixes.len())
 }
 
-// The first certificate below n that is not there whole or has a mark above 1, n if there is none: a number, for it is a place.
+// The first certificate below n that is not there whole or whose may_issue is above 1; n if there is none.
 pub(crate) fn first_faulty(n: usize, numbers: &[u32]) -> usize
-    ensures { First n (faulty numbers.now) result }
+    ensures { FirstWhere n (faulty numbers.now) result }
 {
-    let (sixes, _) = numbers.as_chunks::<SIX>();
+    let (sixes, _) = numbers.as_chunks::<NUMBERS>();
     let there = n.min(sixes.len());
-    first_ill_marked(&sixes[..there])
+    first_bad_may_issue(&sixes[..there])
 }
 
-// The largest of the marks, 0 if there is none: a fold becomes vector steps, where `all`, with its early exit, would not.
+// The largest mark, 0 if there is none: a fold is compiled to vector steps, where `all`, with its early exit, is not.
 fn largest(marks: &[u8]) -> u8
     ensures { result ≡ fold max 0 marks.now }
 {
@@ -41,7 +40,7 @@ pub(crate) fn all_marks(marks: &[u8]) -> bool
     largest(marks) <= YES
 }
 
-// Whether n times n is a length, however large n is.
+// Whether a length is n × n; no n overflows.
 pub(crate) fn is_square(n: u64, len: usize) -> bool
     ensures { result ≡ (len == n * n) }
 {
@@ -49,20 +48,21 @@ pub(crate) fn is_square(n: u64, len: usize) -> bool
 }
 
 impl PoolInput<'_> {
-    // Whether the numbers are those of so many certificates.
+    // Whether there are six numbers for each of 1 to `MOST` certificates, and no may_issue above 1.
     fn certificates_well(&self) -> bool
-        ensures { result ≡ certificates_well self.now.count self.now.certificates.now }
+        ensures { result ≡ certificates_well (input_of self.now) }
     {
         if self.count == 0 || self.count > MOST as u64 {
             return false;
         }
         let count = self.count as usize;
-        self.certificates.len() == SIX * count && first_faulty(count, self.certificates) == count
+        self.certificates.len() == NUMBERS * count
+            && first_faulty(count, self.certificates) == count
     }
 
-    // Whether the marks are those of so many certificates.
+    // Whether there is a signature mark for each two certificates, an anchor mark for each, and none above 1.
     fn marks_well(&self) -> bool
-        ensures { result ≡ marks_well self.now.count self.now.signatures.now self.now.anchors.now }
+        ensures { result ≡ marks_well (input_of self.now) }
     {
         is_square(self.count, self.signatures.len())
             && self.anchors.len() as u64 == self.count
@@ -70,9 +70,9 @@ impl PoolInput<'_> {
             && all_marks(self.anchors)
     }
 
-    // The first rejection that applies to the numbers and the marks, if any.
-    pub fn rejection(&self) -> Option<Rejection>
-        ensures { result ≡ input_rejection self.now }
+    // The first rejection that applies to the input, if any.
+    pub(crate) fn rejection(&self) -> Option<Rejection>
+        ensures { result ≡ pool_rejection (input_of self.now) }
     {
         if !self.certificates_well() {
             return Some(Rejection::Certificates);

@@ -1,25 +1,25 @@
-// Whether one certificate is the issuer of another, and whether a row of certificates is a chain.
+// Whether one certificate issues or follows another, and whether a list of certificates is a chain.
 ghost use Rattle.std.specs.Prelude.{◌≡◌, MatchBool};
-ghost use Rattle.trust.specs.Chains.{Pool, Chain};
-ghost use Rattle.chain.specs.Members.{member_pool};
+ghost use Rattle.trust.specs.Chains.{Pool, Chain, issues, follows};
+ghost use Rattle.chain.specs.CertificateViews.{certificate_pool};
 ghost use Rattle.chain.specs.Views.{view_pool};
-ghost use Rattle.chain.specs.Known.{issues_known, step, top};
 
-use crate::member::Member;
+use crate::certificate::CertificateView;
 use crate::view::PoolView;
 
 // Whether a is an issuer of b, a certificate of the same pool.
 #[tactic(auto, unfolding(trust::specs::Chains::issues))]
-fn is_issuer(a: &Member, b: &Member) -> bool
+fn is_issuer(a: &CertificateView, b: &CertificateView) -> bool
     requires same { b.now.view.now ≡ a.now.view.now }
-    ensures { result ≡ issues_known (member_pool a.now) a.now.index b.now.index }
+    ensures { result ≡ issues (certificate_pool a.now) a.now.index b.now.index }
 {
     a.may_issue() && a.subject() == b.issuer() && a.signs(b.index())
 }
 
 // Whether certificates a and b are there and a is an issuer of b.
+#[tactic(auto, unfolding(trust::specs::Chains::issues))]
 pub fn issues(view: &PoolView, a: usize, b: usize) -> bool
-    ensures { result ≡ issues_known (view_pool view.now) a b }
+    ensures { result ≡ issues (view_pool view.now) a b }
 {
     match (view.get(a), view.get(b)) {
         (Some(a), Some(b)) => is_issuer(&a, &b),
@@ -27,42 +27,42 @@ pub fn issues(view: &PoolView, a: usize, b: usize) -> bool
     }
 }
 
-// Whether a holds on the day, and b, of the same pool, issues it and allows so many certificates between.
-fn climbs_to(day: u64, between: usize, a: &Member, b: &Member) -> bool
-    requires same { b.now.view.now ≡ a.now.view.now }
-    ensures { result ≡ step (member_pool a.now) day between a.now.index b.now.index }
+// Whether certificate b is an issuer of a, allows k certificates between itself and the first of a chain, and holds on the day.
+#[tactic(auto, unfolding(trust::specs::Chains::issues, trust::specs::Chains::follows))]
+pub fn follows(view: &PoolView, day: u64, k: usize, a: usize, b: usize) -> bool
+    ensures { result ≡ follows (view_pool view.now) day k a b }
 {
-    a.holds(day) && is_issuer(b, a) && between <= b.path_len() as usize
+    let Some(above) = view.get(b) else {
+        return false;
+    };
+    issues(view, b, a) && k <= above.path_len() as usize && above.holds(day)
 }
 
-// Whether a holds on the day and is a trust anchor.
-fn ends_at(day: u64, a: &Member) -> bool
-    ensures { result ≡ top (member_pool a.now) day a.now.index }
+// Whether a list of certificates is a chain from the first one up to a trust anchor on a day.
+pub fn judge_chain(view: &PoolView, day: u64, first: u64, certificates: &[u64]) -> bool
+    ensures { MatchBool result (Chain (view_pool view.now) day first certificates.now) (Chain (view_pool view.now) day first certificates.now → ⊥) }
 {
-    a.holds(day) && a.is_anchor()
-}
-
-// Whether a row of certificates is a chain from the first one up to a trust anchor on a day.
-pub fn judge_chain(view: &PoolView, day: u64, first: u64, row: &[u64]) -> bool
-    ensures { MatchBool result (Chain (view_pool view.now) day first row.now) (Chain (view_pool view.now) day first row.now → ⊥) }
-{
-    let [start, rest @ ..] = row else {
+    let [start, rest @ ..] = certificates else {
         return false;
     };
     if *start != first {
         return false;
     }
-    let Some(mut at) = view.get(first as usize) else {
+    let Some(start) = view.get(first as usize) else {
         return false;
     };
+    if !start.holds(day) {
+        return false;
+    }
+    let mut at = first as usize;
     for (between, next) in rest.iter().enumerate() {
-        let Some(next) = view.get(*next as usize) else {
-            return false;
-        };
-        if !climbs_to(day, between, &at, &next) {
+        if !follows(view, day, between, at, *next as usize) {
             return false;
         }
-        at = next;
+        at = *next as usize;
     }
-    ends_at(day, &at)
+    match view.get(at) {
+        Some(last) => last.is_anchor(),
+        None => false,
+    }
 }

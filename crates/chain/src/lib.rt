@@ -1,17 +1,16 @@
-// Certificates that are six numbers each: what is rejected, which pool they are, who issues whom, and what is a chain.
+// The input of a pool of certificates: why it is rejected, who issues whom in it, and what is a chain.
 #![tactic(auto)]
 
+mod certificate;
 mod checks;
-pub mod input;
+mod input;
 mod judging;
-pub mod member;
 mod places;
-pub mod view;
+mod promise;
+mod view;
 
-pub use input::{
-    ISSUER, MAY_ISSUE, MOST, NOT_AFTER, NOT_BEFORE, PATH_LEN, PoolInput, Rejection, SIX, SUBJECT,
-    YES,
-};
-pub use judging::{issues, judge_chain};
-pub use member::Member;
+pub use certificate::CertificateView;
+pub use input::{MOST, PoolInput, Rejection};
+pub use judging::{follows, issues, judge_chain};
+pub use promise::pool_rejection_stands;
 pub use view::PoolView;

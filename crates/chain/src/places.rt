@@ -1,14 +1,15 @@
-// Where numbers and marks are rejected.
+// Where the input of a pool is rejected.
 ghost use Rattle.std.specs.Prelude.{length};
-ghost use Rattle.chain.specs.Places.{CertificatesPlace, MarksPlace, bad_mark};
-ghost use Rattle.chain.specs.Sixes.{First};
+ghost use Rattle.chain.specs.Inputs.{input_of};
+ghost use Rattle.chain.specs.Places.{FirstWhere, CertificatesPlace, MarksPlace};
+ghost use Rattle.chain.specs.Rejections.{above_one};
 
 use crate::checks::{all_marks, first_faulty, is_square};
 use crate::input::{MOST, PoolInput, YES};
 
-// The first mark above 1, as many as there are if there is none: a number, for it is a place.
+// The first mark above 1; their number if there is none.
 fn first_bad(marks: &[u8]) -> usize
-    ensures { First (length marks.now) (bad_mark marks.now) result }
+    ensures { FirstWhere (length marks.now) (above_one marks.now) result }
 {
     marks
         .iter()
@@ -17,9 +18,9 @@ fn first_bad(marks: &[u8]) -> usize
 }
 
 impl PoolInput<'_> {
-    // The place at which the numbers are rejected.
+    // The place of `Rejection::Certificates`: the first certificate at fault, counted from 0, or `MOST` if there are more.
     pub fn certificates_place(&self) -> u64
-        ensures { CertificatesPlace self.now.count self.now.certificates.now result }
+        ensures { CertificatesPlace (input_of self.now) result }
     {
         if self.count > MOST as u64 {
             return MOST as u64;
@@ -27,9 +28,9 @@ impl PoolInput<'_> {
         first_faulty(self.count as usize, self.certificates) as u64
     }
 
-    // The place at which the marks are rejected.
+    // The place of `Rejection::Marks`: the length of the list whose length is wrong, else the first mark above 1, counted in its own list from 0.
     pub fn marks_place(&self) -> u64
-        ensures { MarksPlace self.now.count self.now.signatures.now self.now.anchors.now result }
+        ensures { MarksPlace (input_of self.now) result }
     {
         if !is_square(self.count, self.signatures.len()) {
             return self.signatures.len() as u64;

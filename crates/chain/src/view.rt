@@ -1,12 +1,12 @@
-// A pool of certificates whose numbers and marks have been checked.
+// A pool whose input has been checked.
 ghost use Rattle.std.specs.Prelude.{◌≡◌, ◌*◌, ◌<◌, ◌≤◌, length};
-ghost use Rattle.chain.specs.Sixes.{most};
+ghost use Rattle.chain.specs.Inputs.{most};
 
 use crate::input::PoolInput;
 
 mod making;
 
-// What was handed in of a pool, with at least one certificate and no more than are taken, and numbers and marks for as many.
+// Checked input: 1 to `MOST` certificates, with numbers and marks for each.
 #[derive(Clone, Copy)]
 pub struct PoolView<'a> {
     pub(crate) input: PoolInput<'a>,

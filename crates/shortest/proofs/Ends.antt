@@ -1,14 +1,14 @@
--- How the search starts and what it writes in the end. Assumes nothing.
+-- How the search starts and what it writes in the end.
 use Rattle.std.proofs.Common.{◌≡◌, ℕ, ◌+◌, ◌-◌, ◌<◌, ◌≤◌, true, List, length, get_or, take, set, replicate, sym, ap, ◌∙◌, arith}
 use lib.ListN.{length-replicate}
 use Rattle.std.proofs.lemmas.List.{get_or-take, length-take-le}
 use Rattle.trust.specs.Chains.{Pool, holds}
-use Rattle.trust.specs.Layers.{Layers, Top, down}
+use Rattle.trust.specs.inner.Layers.{Layers, Top, down}
 use Rattle.trust.proofs.Found.{laid_out}
 use Rattle.trust.proofs.Layers.{begun, explored_below}
 use Rattle.shortest.proofs.Steps.{same_at}
-use Rattle.shortest.specs.Answers.{Written}
-use Rattle.shortest.specs.LaidOut.{LaidOut}
+use Rattle.shortest.specs.Answers.{InBuffer}
+use Rattle.shortest.specs.inner.LaidOut.{LaidOut}
 
 blank : ℕ → List ℕ
 blank n = replicate n 0
@@ -26,7 +26,7 @@ unfolding blank
 started p day first n far from order size over e f o s v known valid few =
     rw (e, f, o, s, v) (begun p day first (blank n) (blank n) (blank n) known (omega (arith, blank_long n)) (omega (arith, blank_long n)) valid (omega (arith, blank_long n)) (blank_zero n) (blank_zero n))
 
--- the next one, if it is a trust anchor, is the top of a shortest chain
+-- a trust anchor that is next in the queue is the top of a shortest chain
 pub topped : (p : Pool) (day first : ℕ) (far from order : List ℕ) (size over x : ℕ) → Layers p day first far from order size over 0 → over < size → x ≡ get_or order over 0 → p.anchor x ≡ true → (k : ℕ) × Top p day first far from k x
 topped p day first far from order size over x h has e t =
     let layer : get_or far x 0 ≡ get_or far x 0 - 1 + 1 = omega (arith, ap (λ i. get_or far i 0) e, h.queue.reached over has) in (
@@ -41,8 +41,8 @@ topped p day first far from order size over x h has e t =
       },
     )
 
--- a chain that is laid out is written
-pub written : (p : Pool) (day first : ℕ) (far from : List ℕ) (k a m : ℕ) (old new : List ℕ) → Top p day first far from k a → m ≡ k + 1 → length old ≡ p.count → LaidOut from a m old new → Written p day first m old new
+-- a chain that is laid out is an answer
+pub written : (p : Pool) (day first : ℕ) (far from : List ℕ) (k a m : ℕ) (old new : List ℕ) → Top p day first far from k a → m ≡ k + 1 → length old ≡ p.count → LaidOut from a m old new → InBuffer p day first m old new
 written p day first far from k a m old new t e room l =
     record {
       fits = omega (arith, t.few);

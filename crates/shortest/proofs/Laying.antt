@@ -1,10 +1,10 @@
--- How a chain is laid out, from its top down. Assumes nothing.
+-- How a chain is written, from its top down.
 use Rattle.std.proofs.Common.{◌≡◌, ℕ, suc, ◌-◌, ◌<◌, ◌≤◌, List, length, get_or, drop, set, refl, ap, ◌∙◌, ⊎_elim, arith, length-set}
 use Rattle.std.proofs.lemmas.List.{drop-set-lt, get_or-set_same, get_or-set_other}
 use Rattle.std.proofs.lemmas.Bool.{cases_eq}
-use Rattle.trust.specs.Layers.{down}
+use Rattle.trust.specs.inner.Layers.{down}
 
--- the places from i on are written, below count, and at is what stands below them
+-- the places from i to `count` are written, and `at` is the certificate below them
 pub record Laying (from : List ℕ) (top count : ℕ) (old new : List ℕ) (at i : ℕ) : Type 0 where
   pub size : length new ≡ length old
   pub rest : drop count new ≡ drop count old
@@ -18,7 +18,7 @@ begun from top count old = record { size = refl; rest = refl; here = refl ∙ ap
     e : 0 ≡ count - count
     e = omega arith
 
--- at is written below what stands already, and next is what it was reached from
+-- `at` is written at the place below, and `next` is the certificate it was reached from
 pub laid : (from : List ℕ) (top count : ℕ) (old new : List ℕ) (at next i : ℕ) → Laying from top count old new at i → 0 < i → i ≤ count → count ≤ length old → next ≡ get_or from at 0 → Laying from top count old (set new (i - 1) at) next (i - 1)
 unfolding down
 laid from top count old new at next i h some l m e =

@@ -1,5 +1,5 @@
 pub mod Ends
-pub mod Follows
+pub mod Faults
 pub mod Growth
 pub mod Laying
 pub mod Steps

@@ -1,11 +1,11 @@
--- Steps as lists: what is read, and what is written. Assumes nothing.
+-- Steps as the lists `far` and `from`, read and written.
 use Rattle.std.proofs.Common.{◌≡◌, ℕ, zero, suc, ◌+◌, ◌<◌, true, false, List, ◌∷◌, get_or, set, replicate, map, Option, Some, None, is_some, sym, refl, ap, ◌∙◌, arith}
 use Rattle.std.proofs.lemmas.Bool.{false≢true}
 use Rattle.std.proofs.Math.ListN.{get_or-map}
 use Rattle.std.proofs.Math.Seq.{map-set_same}
 use Rattle.std.proofs.lemmas.List.{map-set}
 use Rattle.shortest.specs.declared.reached.Step.{Step}
-use Rattle.shortest.specs.Steps.{far_by, from_by, far, from}
+use Rattle.shortest.specs.inner.Steps.{far_by, from_by, far, from}
 
 pub far_at : (steps : List (Option Step)) (a : ℕ) → get_or (far steps) a 0 ≡ far_by (get_or steps a None)
 far_at steps a = get_or-map far_by steps a None
@@ -19,7 +19,7 @@ far_set steps a m s e = map-set far_by steps a (Some s) ∙ ap (set (far steps) 
 pub from_set : (steps : List (Option Step)) (a : ℕ) (s : Step) → from (set steps a (Some s)) ≡ set (from steps) a s.below
 from_set steps a s = map-set from_by steps a (Some s)
 
--- what is everywhere the same is so past its end too
+-- a list of one value reads as that value past its end too
 pub same_at : {X : Type 0} (n i : ℕ) (x : X) → get_or (replicate n x) i x ≡ x
 same_at zero i x = refl
 same_at (suc n) zero x = refl
@@ -29,7 +29,7 @@ map-replicate : {X Y : Type 0} (f : X → Y) (n : ℕ) (x : X) → map f (replic
 map-replicate f zero x = refl
 map-replicate f (suc n) x = ap (λ l. f x ∷ l) (map-replicate f n x)
 
--- one that has not been reached, and one that has
+-- an unreached certificate, and a reached one
 pub unreached : (steps : List (Option Step)) (a : ℕ) → is_some (get_or steps a None) ≡ false → get_or (far steps) a 0 ≡ 0
 unreached steps a e = far_at steps a ∙ none_far (get_or steps a None) e
   where

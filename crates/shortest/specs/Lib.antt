@@ -1,6 +1,5 @@
 pub mod Answers
-pub mod Kept
-pub mod LaidOut
+pub mod Faults
 pub mod Places
 pub mod Promise
-pub mod Steps
+pub mod inner

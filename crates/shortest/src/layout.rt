@@ -1,12 +1,12 @@
-// A chain laid out into the output buffer.
+// A chain written into the output buffer.
 ghost use Rattle.std.specs.Prelude.{ℕ, ◌<◌, ◌≤◌, length, slice_index};
-ghost use Rattle.chain.specs.Sixes.{most};
-ghost use Rattle.shortest.specs.LaidOut.{LaidOut};
-ghost use Rattle.shortest.specs.Steps.{from};
+ghost use Rattle.chain.specs.Inputs.{most};
+ghost use Rattle.shortest.specs.inner.LaidOut.{LaidOut};
+ghost use Rattle.shortest.specs.inner.Steps.{from};
 
 use crate::reached::Reached;
 
-// Writes a chain into the first places, as many as count: top at the last of them, below it the one that it was reached from, and so on down to place 0.
+// Writes the chain up to `top` into the first `count` places, from the top down: each certificate was reached from the one before it.
 pub(crate) fn lay_out(reached: &Reached, top: usize, count: usize, out: &mut [u16])
     requires top_fits { top < most }
     requires count_fits { count ≤ length out.old }
@@ -14,7 +14,6 @@ pub(crate) fn lay_out(reached: &Reached, top: usize, count: usize, out: &mut [u1
     ensures { LaidOut (from reached.now.steps) top count out.old out.new }
 {
     let mut at = top;
-    // By places: of what `iter_mut().rev()` writes no invariant can speak.
     for i in (0..count).rev() {
         out[i] = at as u16;
         at = reached.below(at);

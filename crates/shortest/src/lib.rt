@@ -2,9 +2,10 @@
 #![tactic(auto)]
 
 ghost use Rattle.std.specs.Prelude.{◌≡◌, length, MatchOption};
+ghost use Rattle.chain.specs.Inputs.{input_of};
 ghost use Rattle.chain.specs.Views.{view_pool};
-ghost use Rattle.shortest.specs.Answers.{Answers, Written};
-ghost use Rattle.shortest.specs.Kept.{NoneUp};
+ghost use Rattle.shortest.specs.Answers.{Answers, InBuffer};
+ghost use Rattle.shortest.specs.inner.Kept.{NoneUp};
 
 use chain::{PoolInput, PoolView, Rejection};
 
@@ -16,16 +17,17 @@ mod reached;
 
 use layout::lay_out;
 pub use place::rejection_place;
-pub use promise::{answer_passes_stands, more_answers_stands, promise_stands};
+pub use promise::{answer_passes_stands, more_answers_stands, promise_stands, rejection_stands};
 use query::Query;
 use reached::Reached;
 
-// How many certificates a shortest chain has, if there is one; it is written to the front of the output buffer.
+// Writes a shortest chain to the front of the output buffer and answers its length, or `None` if there is no chain.
 fn find(asked: &Query, out: &mut [u16]) -> Option<usize>
     requires { length out.old ≡ (view_pool asked.now.view).count }
-    ensures { MatchOption result ((out.new ≡ out.old) × NoneUp asked.now) (λ k. Written (view_pool asked.now.view) asked.now.day asked.now.first k out.old out.new) }
+    ensures { MatchOption result ((out.new ≡ out.old) × NoneUp asked.now) (λ k. InBuffer (view_pool asked.now.view) asked.now.day asked.now.first k out.old out.new) }
 {
-    if !asked.view.at(asked.first).holds(asked.day) {
+    let start = asked.view.get(asked.first)?;
+    if !start.holds(asked.day) {
         return None;
     }
     let mut reached = Reached::begin(asked);
@@ -35,14 +37,16 @@ fn find(asked: &Query, out: &mut [u16]) -> Option<usize>
     Some(count)
 }
 
-// How many certificates a shortest chain from certificate `first` up to a trust anchor on a day has, if there is one, or why the input is rejected; the chain is written to the front of the output buffer.
+// Searches for a shortest chain from certificate `first` up to a trust anchor; `day` is counted as the certificates' days are. `out` has one place for each certificate.
+// On `Ok(Some(n))` the first n places of `out` have the chain's certificates, `first` first, and the rest is unchanged; without a chain all of `out` is unchanged.
+// Errors: the first `Rejection` that applies, at its `rejection_place`.
 pub fn find_chain(
     input: PoolInput,
     day: u64,
     first: u64,
     out: &mut [u16],
 ) -> Result<Option<usize>, Rejection>
-    ensures { Answers input.entry.count input.entry.certificates.now input.entry.signatures.now input.entry.anchors.now day first out.old out.new result }
+    ensures { Answers (input_of input.entry) day first out.old out.new result }
 {
     let view = PoolView::check(input)?;
     if first >= input.count {

@@ -1,21 +1,21 @@
-// Which certificates have been reached.
+// The search from below: which certificates have been reached.
 use chain::MOST;
 
 mod climbing;
 
-// How a certificate was reached: in which layer, and from which one below it.
+// How a certificate was reached: in which layer, and from which certificate below it.
+// Both are below `MOST`, so a byte each.
 #[derive(Clone, Copy)]
 pub struct Step {
     pub layer: u8,
     pub below: u8,
 }
 
-// How each certificate was reached, if it was; those reached, in that order, how many they are, and the turns of how many are over.
-// What is kept of it (`Kept`) moves on with each turn, so it is a clause of each step and no invariant of the type.
+// Breadth-first search: the step to each certificate, and the queue of those reached, of which the first `over` have had their turns.
 #[derive(Drop)]
 pub struct Reached {
     steps: [Option<Step>; MOST],
-    // An array with its size: no heap on the searching path, and `Order` speaks of a list with room for all, which an `ArrayVec` is not.
+    // An array, so that searching takes no memory from the heap; the first `size` places are filled.
     order: [u8; MOST],
     size: usize,
     over: usize,

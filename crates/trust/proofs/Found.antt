@@ -1,25 +1,13 @@
--- What a search by layers has found: a shortest chain, or that there is none. Assumes nothing.
-use Rattle.std.proofs.Common.{◌≡◌, ℕ, zero, suc, ◌+◌, ◌-◌, ◌<◌, ◌≤◌, true, false, ◌&&◌, leb, List, [], ◌∷◌, length, get_or, sym, refl, ap, ◌∙◌, subst, ⊎_elim, add-one, arith}
-use Rattle.std.proofs.lemmas.Bool.{and_parts, and_from, both_ways, cases_lt, leb-true, le-leb}
-use Rattle.trust.specs.Chains.{Pool, holds, issues, Chain, Shortest}
-use Rattle.trust.specs.Layers.{follows, Tree, Explored, Top, down}
+-- What a search by layers has found: a shortest chain, or that there is none.
+use Rattle.std.proofs.Common.{◌≡◌, ℕ, zero, suc, ◌+◌, ◌-◌, ◌<◌, ◌≤◌, true, false, List, [], ◌∷◌, length, get_or, sym, refl, ap, ◌∙◌, subst, ⊎_elim, add-one, arith}
+use Rattle.std.proofs.lemmas.Bool.{both_ways, cases_lt}
+use Rattle.trust.specs.Chains.{Pool, holds, follows, Chain, Shortest}
+use Rattle.trust.specs.inner.Layers.{Tree, Explored, Top, down}
 use Rattle.trust.specs.Promise.{Links}
 use Rattle.trust.proofs.Means.{linked}
-use Rattle.trust.proofs.Ways.{Step, Way, held, whole}
+use Rattle.trust.proofs.Ways.{Way, follow_parts, follow_from, held, whole}
 
--- a certificate that can follow holds on the day and is a step up
-follow_parts : (p : Pool) (day k a b : ℕ) → follows p day k a b ≡ true → (holds (p.certificate b) day ≡ true) × Step p k a b
-unfolding follows
-follow_parts p day k a b f =
-    let i = and_parts (issues p b a) (leb k (p.certificate b).path_len && holds (p.certificate b) day) f in
-    let r = and_parts (leb k (p.certificate b).path_len) (holds (p.certificate b) day) i.1 in
-    (r.1, record { issued = i.0; room = leb-true _ _ r.0 })
-
-follow_from : (p : Pool) (day j k a b : ℕ) → holds (p.certificate b) day ≡ true → Step p k a b → j ≤ k → follows p day j a b ≡ true
-unfolding follows
-follow_from p day j k a b v s l = and_from _ _ s.issued (and_from _ _ (le-leb j (p.certificate b).path_len (omega (arith, s.room))) v)
-
--- below the limit no way comes to its trust anchor
+-- a way that is shorter than the limit can't end at a trust anchor
 never : (p : Pool) (day : ℕ) (far : List ℕ) (limit : ℕ) → Explored p day far limit → (m a : ℕ) (xs : List ℕ) → Way p day m a xs → 0 < get_or far a 0 → get_or far a 0 ≤ m + 1 → m + length xs + 1 < limit → ⊥
 never p day far limit h m a [] w some early l = both_ways (p.anchor a) (h.clear a w.0.known some (omega arith)) w.1
 never p day far limit h m a (b ∷ xs) w some early l =
@@ -30,15 +18,15 @@ never p day far limit h m a (b ∷ xs) w some early l =
     let r = h.closed j a b w.0.known u.known e (omega arith) (follow_from p day j m a b u.valid w.1 q) in
     never p day far limit h (m + 1) b xs w.2 r.0 (omega (arith, r.1)) (omega arith)
 
--- a way goes up to the limit
+-- so a way is at least as long as the limit
 longer : (p : Pool) (day first : ℕ) (far from : List ℕ) (limit : ℕ) → Tree p day first far from → Explored p day far limit → (xs : List ℕ) → Way p day 0 first xs → limit ≤ length xs + 1
 longer p day first far from limit t h xs w = ⊎_elim (λ l. absurd (never p day far limit h 0 first xs w (omega (arith, t.start)) (omega (arith, t.start)) (omega arith))) (λ l. l) (cases_lt (length xs + 1) limit)
 
--- all that can be reached is explored, and there is no trust anchor
+-- no chain, once all is explored
 pub no_chain : (p : Pool) (day first : ℕ) (far from : List ℕ) → Tree p day first far from → ((limit : ℕ) → Explored p day far limit) → (xs : List ℕ) → Chain p day first xs → ⊥
 no_chain p day first far from t h xs c = let w = whole p day first xs c in omega (arith, longer p day first far from (length w.above + 2) t (h (length w.above + 2)) w.above w.way)
 
--- a certificate that does not hold begins no chain
+-- a certificate that does not hold on the day begins no chain
 pub not_held : (p : Pool) (day first : ℕ) → holds (p.certificate first) day ≡ false → (xs : List ℕ) → Chain p day first xs → ⊥
 not_held p day first e xs c = let w = whole p day first xs c in both_ways _ e (held p day 0 first w.above w.way).valid
 
@@ -52,18 +40,18 @@ module _ (p : Pool) (day first : ℕ) (far from : List ℕ) (k a : ℕ) (t : Top
   low zero = t.known
   low (suc j) = t.tree.below (down from a j)
 
-  -- the layer of what stands j layers below
+  -- the layer of the certificate j layers below
   layer : (i j : ℕ) → i + j ≡ k → get_or far (down from a j) 0 ≡ i + 1
   unfolding down
   layer i zero e = t.layer ∙ omega arith
   layer i (suc j) e = (t.tree.parent i (down from a j) (low j) (layer (i + 1) j (omega arith) ∙ omega arith)).layer
 
-  -- what stands j layers below can follow what stands below that
+  -- the certificate j layers below can follow the one below it
   above : (i j : ℕ) → i + suc j ≡ k → follows p day i (down from a (suc j)) (down from a j) ≡ true
   unfolding down
   above i j e = (t.tree.parent i (down from a j) (low j) (layer (i + 1) j (omega arith) ∙ omega arith)).follow
 
-  -- those below one another, laid out from the first to a, are a shortest chain
+  -- the certificates down from a, laid out from the first up to a, are a shortest chain
   pub laid_out : (xs : List ℕ) → length xs ≡ k + 1 → ((i : ℕ) → i ≤ k → get_or xs i 0 ≡ down from a (k - i)) → Shortest p day first xs
   laid_out xs long each = record { chain = linked p day first xs links; least = least }
     where

@@ -1,26 +1,26 @@
--- What one turn of a search by layers keeps. Assumes nothing.
+-- What one turn of a search by layers keeps.
 use Rattle.std.proofs.Common.{◌≡◌, ℕ, ◌+◌, ◌<◌, ◌≤◌, true, false, ◌⊎◌, List, length, get_or, set, sym, ap, ◌∙◌, subst, inl, inr, ⊎_elim, arith, length-set}
 use Rattle.std.proofs.lemmas.List.{get_or-set_same, get_or-set_other}
 use Rattle.std.proofs.lemmas.Bool.{both_ways, cases_eq, cases_lt}
-use Rattle.trust.specs.Chains.{Pool, holds}
-use Rattle.trust.specs.Layers.{follows, Before, Parent, Tree, Order, Turns, Layers, Explored}
+use Rattle.trust.specs.Chains.{Pool, holds, follows}
+use Rattle.trust.specs.inner.Layers.{Before, Parent, Tree, Order, Turns, Layers, Explored}
 use Rattle.trust.proofs.Numbers.{fewer}
 
 -- what stands at a once v was written at i
-abbrev Written : (xs : List ℕ) (i v a : ℕ) → Type 0
-Written xs i v a = ((a ≡ i) × (get_or (set xs i v) a 0 ≡ v)) ⊎ ((a ≡ i → ⊥) × (get_or (set xs i v) a 0 ≡ get_or xs a 0))
+abbrev SetAt : (xs : List ℕ) (i v a : ℕ) → Type 0
+SetAt xs i v a = ((a ≡ i) × (get_or (set xs i v) a 0 ≡ v)) ⊎ ((a ≡ i → ⊥) × (get_or (set xs i v) a 0 ≡ get_or xs a 0))
 
-written : (xs : List ℕ) (i v a : ℕ) → i < length xs → Written xs i v a
-written xs i v a l =
+set_at : (xs : List ℕ) (i v a : ℕ) → i < length xs → SetAt xs i v a
+set_at xs i v a l =
     ⊎_elim
     (λ e. inl (e, ap (λ j. get_or (set xs i v) j 0) e ∙ get_or-set_same xs i v 0 l))
     (λ n. inr (n, get_or-set_other xs i a v 0 n))
     (cases_eq a i)
 
--- at first only the certificate asked about is reached
+-- at the start only the certificate asked about is reached
 module _ (p : Pool) (day first : ℕ) (far from order : List ℕ) (known : first < p.count) (room : p.count ≤ length far) (order_room : p.count ≤ length order) where
-  at_first : (a : ℕ) → Written far first 1 a
-  at_first a = written far first 1 a (omega arith)
+  at_first : (a : ℕ) → SetAt far first 1 a
+  at_first a = set_at far first 1 a (omega arith)
 
   head : (j : ℕ) → j < 1 → get_or (set order 0 first) j 0 ≡ first
   head j l = let e : j ≡ 0 = omega arith in ap (λ i. get_or (set order 0 first) i 0) e ∙ get_or-set_same order 0 first 0 (omega arith)
@@ -48,7 +48,7 @@ module _ (p : Pool) (day first : ℕ) (far from order : List ℕ) (known : first
       low = λ j l. omega (arith, head_layer j l);
       rising = λ i j l m. omega (arith, head_layer i (omega arith), head_layer j m);
       once = λ i j l m e. omega arith;
-      placed = λ a l s. ⊎_elim
+      queued = λ a l s. ⊎_elim
           (λ w. record { place = 0; within = omega arith; here = head 0 (omega arith) ∙ sym w.0 })
           (λ w. absurd (omega (arith, none a, w.1)))
           (at_first a);
@@ -64,19 +64,19 @@ module _ (p : Pool) (far order : List ℕ) (size : ℕ) (h : Order p far order s
   fresh : (y : ℕ) → get_or far y 0 ≡ 0 → (j : ℕ) → j < size → get_or order j 0 ≡ y → ⊥
   fresh y z j l e = omega (arith, h.reached j l, ap (λ a. get_or far a 0) e)
 
-  -- while one is not reached, there is room for one more
+  -- while one is unreached, the queue has room for one more
   pub fits : (y : ℕ) → y < p.count → get_or far y 0 ≡ 0 → size < p.count
   fits y l z = fewer size p.count (λ j. get_or order j 0) y h.listed l h.once (fresh y z)
 
-  -- where as many were reached as there are, each was
+  -- once as many are reached as there are, each one is
   all_reached : p.count ≤ size → (b : ℕ) → b < p.count → 0 < get_or far b 0
   all_reached full b l = ⊎_elim (λ z. absurd (omega (arith, fits b l z))) (λ z. omega arith) (cases_eq (get_or far b 0) 0)
 
-  -- what was reached is at most one layer above that of the next one
+  -- a certificate reached is at most one layer above the next one in the queue
   close : {day over y : ℕ} → Turns p day far order size over y → over < size → (b : ℕ) → b < p.count → 0 < get_or far b 0 → get_or far b 0 ≤ get_or far (get_or order over 0) 0 + 1
-  close t has b l s = let q = h.placed b l s in omega (arith, t.near q.place q.within has, ap (λ a. get_or far a 0) q.here)
+  close t has b l s = let q = h.queued b l s in omega (arith, t.near q.place q.within has, ap (λ a. get_or far a 0) q.here)
 
--- the turn of y above x, which stands at place over in layer k
+-- the turn of y above x, which stands at place `over` of the queue and in layer k
 module _ (p : Pool) (day first : ℕ) (far from order : List ℕ) (size over k x y : ℕ) (h : Layers p day first far from order size over y) (has : over < size) (here : get_or order over 0 ≡ x) (ex : get_or far x 0 ≡ k + 1) (ly : y < p.count) where
   layer : get_or far (get_or order over 0) 0 ≡ k + 1
   layer = ap (λ a. get_or far a 0) here ∙ ex
@@ -84,19 +84,19 @@ module _ (p : Pool) (day first : ℕ) (far from order : List ℕ) (size over k x
   pub at_hand : x < p.count
   at_hand = omega (arith, here, h.queue.listed over has)
 
-  -- no layer is higher than those reached are many
+  -- a layer is below the number of certificates reached
   pub lower : k < size
   lower = omega (arith, layer, h.queue.low over has)
 
   -- y is reached
   module _ (ey : get_or far y 0 ≡ 0) (f : true ≡ follows p day k x y) where
-    at : (a : ℕ) → Written far y (k + 2) a
-    at a = written far y (k + 2) a (omega (arith, h.tree.room))
+    at : (a : ℕ) → SetAt far y (k + 2) a
+    at a = set_at far y (k + 2) a (omega (arith, h.tree.room))
 
-    under : (a : ℕ) → Written from y x a
-    under a = written from y x a (omega (arith, h.tree.from_room))
+    under : (a : ℕ) → SetAt from y x a
+    under a = set_at from y x a (omega (arith, h.tree.from_room))
 
-    -- what was reached before stays where it is
+    -- certificates reached before keep their layers
     stays : (a m : ℕ) → get_or far a 0 ≡ m + 1 → get_or (set far y (k + 2)) a 0 ≡ m + 1
     stays a m e = ⊎_elim (λ w. absurd (omega (arith, ap (λ j. get_or far j 0) w.0))) (λ w. w.1 ∙ e) (at a)
 
@@ -156,13 +156,13 @@ module _ (p : Pool) (day first : ℕ) (far from order : List ℕ) (size over k x
           (λ u. h.queue.once i j l u (sym (same i (omega arith)) ∙ e ∙ same j u))
           (λ u. fresh p far order size h.queue y ey i (omega arith) (sym (same i (omega arith)) ∙ e ∙ last j u))
           (place j m);
-      placed = λ a l s. ⊎_elim
+      queued = λ a l s. ⊎_elim
           (λ w. record { place = size; within = omega arith; here = last size (λ i. size) ∙ sym w.0 })
-          (λ w. let q = h.queue.placed a l (omega (arith, w.1)) in record { place = q.place; within = omega (arith, q.within); here = same q.place q.within ∙ q.here })
+          (λ w. let q = h.queue.queued a l (omega (arith, w.1)) in record { place = q.place; within = omega (arith, q.within); here = same q.place q.within ∙ q.here })
           (at a);
     }
 
-    past : (m j b : ℕ) → j < size → b < p.count → get_or far (get_or order j 0) 0 ≡ m + 1 → Before j b over (y + 1) → follows p day m (get_or order j 0) b ≡ true → Written far y (k + 2) b → (0 < get_or (set far y (k + 2)) b 0) × (get_or (set far y (k + 2)) b 0 ≤ m + 2)
+    past : (m j b : ℕ) → j < size → b < p.count → get_or far (get_or order j 0) 0 ≡ m + 1 → Before j b over (y + 1) → follows p day m (get_or order j 0) b ≡ true → SetAt far y (k + 2) b → (0 < get_or (set far y (k + 2)) b 0) × (get_or (set far y (k + 2)) b 0 ≤ m + 2)
     past m j b l lb e o g (inl w) =
         ⊎_elim
         (λ u. absurd (omega (arith, (h.turns.past m j b l lb e (inl u) g).0, ap (λ a. get_or far a 0) w.0)))
@@ -190,7 +190,7 @@ module _ (p : Pool) (day first : ℕ) (far from order : List ℕ) (size over k x
     pub pushed : Layers p day first (set far y (k + 2)) (set from y x) (set order size y) (size + 1) over (y + 1)
     pushed = record { tree = tree; queue = queue; turns = turns }
 
-  -- y is not reached from x: it was reached before, or can't follow
+  -- y is left as it is: it was reached before, or can't follow
   pub passed : (0 < get_or far y 0) ⊎ (follows p day k x y ≡ false) → Layers p day first far from order size over (y + 1)
   passed o = record {
     tree = h.tree;
@@ -209,7 +209,7 @@ module _ (p : Pool) (day first : ℕ) (far from order : List ℕ) (size over k x
       at_over m j b l lb e ej lt g (inr n) = h.turns.past m j b l lb e (inr (ej, omega arith)) g
 
 module _ (p : Pool) (day first : ℕ) (far from order : List ℕ) (size over : ℕ) where
-  -- where all are reached, no turn adds any
+  -- once all are reached, a turn adds none
   pub full : Layers p day first far from order size over 0 → over < size → p.count ≤ size → Layers p day first far from order size over p.count
   full h has all = record {
     tree = h.tree;
@@ -224,7 +224,7 @@ module _ (p : Pool) (day first : ℕ) (far from order : List ℕ) (size over : �
     };
   }
 
-  -- the one at place over has had its turn, and is no trust anchor
+  -- the one at place `over`, no trust anchor, has had all its turns
   pub turned : (x : ℕ) → Layers p day first far from order size over p.count → over < size → get_or order over 0 ≡ x → p.anchor x ≡ false → Layers p day first far from order size (over + 1) 0
   turned x h has here no-anchor = record {
     tree = h.tree;
@@ -236,23 +236,23 @@ module _ (p : Pool) (day first : ℕ) (far from order : List ℕ) (size over : �
     };
   }
 
-  -- below a limit that only those have which had their turn, all is explored
+  -- explored below a limit, if all below it have had their turns
   explored : Layers p day first far from order size over 0 → (limit : ℕ) → ((j : ℕ) → j < size → get_or far (get_or order j 0) 0 < limit → j < over) → Explored p day far limit
   explored h limit done = record {
     closed = λ m a b la lb e l f.
-        let q = h.queue.placed a la (omega arith) in
+        let q = h.queue.queued a la (omega arith) in
         let c = ap (λ i. get_or far i 0) q.here in
         h.turns.past m q.place b q.within lb (c ∙ e) (inl (done q.place q.within (omega arith))) (subst (λ i. follows p day m i b ≡ true) (sym q.here) f);
     clear = λ a la s l.
-        let q = h.queue.placed a la s in
+        let q = h.queue.queued a la s in
         let c = ap (λ i. get_or far i 0) q.here in
         ap (λ i. p.anchor i) (sym q.here) ∙ h.turns.cleared q.place (done q.place q.within (omega arith));
   }
 
-  -- all layers below that of the next one are explored
+  -- explored below the layer of the next one
   pub explored_below : (k x : ℕ) → Layers p day first far from order size over 0 → over < size → get_or order over 0 ≡ x → get_or far x 0 ≡ k + 1 → Explored p day far (k + 1)
   explored_below k x h has here e = explored h (k + 1) (λ j l m. ⊎_elim (λ u. u) (λ u. absurd (omega (arith, h.queue.rising over j u l, ap (λ a. get_or far a 0) here))) (cases_lt j over))
 
-  -- all that were reached have had their turns
+  -- explored throughout, once all that were reached have had their turns
   pub explored_all : Layers p day first far from order size over 0 → size ≤ over → (limit : ℕ) → Explored p day far limit
   explored_all h l limit = explored h limit (λ j m u. omega arith)

@@ -1,17 +1,17 @@
--- A chain place by place, and in a pool that has more. Assumes nothing.
+-- A chain place by place, and in a pool that has more.
 use Rattle.std.proofs.Common.{◌≡◌, ℕ, zero, suc, ◌+◌, ◌<◌, true, ◌&&◌, eqb, List, [], ◌∷◌, length, get_or, sym, refl, subst, add-one, arith}
 use Rattle.std.proofs.lemmas.Bool.{and_parts, and_from}
 use Rattle.trust.specs.Chains.{Pool, holds, issues, Chain, Extends}
 use Rattle.trust.specs.Promise.{Links, MoreKeeps, ChainMeans}
 use Rattle.trust.proofs.Ways.{Held, Step, Way, held, Whole, whole, chain}
 
--- the places of a way: what stands at i holds, and the next place is a step up
-pub record Places (p : Pool) (day k : ℕ) (xs : List ℕ) : Type 0 where
+-- the places of a way: the certificate at i holds, and the next one is a step up
+pub record WayPlaces (p : Pool) (day k : ℕ) (xs : List ℕ) : Type 0 where
   pub each : (i : ℕ) → i < length xs → Held p day (get_or xs i 0)
   pub next : (i : ℕ) → suc i < length xs → Step p (k + i) (get_or xs i 0) (get_or xs (suc i) 0)
   pub last : (i : ℕ) → suc i ≡ length xs → p.anchor (get_or xs i 0) ≡ true
 
-pub places : (p : Pool) (day k a : ℕ) (xs : List ℕ) → Way p day k a xs → Places p day k (a ∷ xs)
+pub places : (p : Pool) (day k a : ℕ) (xs : List ℕ) → Way p day k a xs → WayPlaces p day k (a ∷ xs)
 places p day k a [] w = record { each = each; next = λ i l. absurd (omega arith); last = last }
   where
     each : (i : ℕ) → i < length (a ∷ []) → Held p day (get_or (a ∷ []) i 0)
@@ -23,7 +23,7 @@ places p day k a [] w = record { each = each; next = λ i l. absurd (omega arith
     last (suc i) e = absurd (omega arith)
 places p day k a (b ∷ xs) w = go (places p day (k + 1) b xs w.2)
   where
-    go : Places p day (k + 1) (b ∷ xs) → Places p day k (a ∷ b ∷ xs)
+    go : WayPlaces p day (k + 1) (b ∷ xs) → WayPlaces p day k (a ∷ b ∷ xs)
     go r = record { each = each; next = next; last = last }
       where
         each : (i : ℕ) → i < length (a ∷ b ∷ xs) → Held p day (get_or (a ∷ b ∷ xs) i 0)
@@ -38,7 +38,7 @@ places p day k a (b ∷ xs) w = go (places p day (k + 1) b xs w.2)
         last zero e = absurd (omega arith)
         last (suc i) e = r.last i (omega arith)
 
-pub way : (p : Pool) (day k a : ℕ) (xs : List ℕ) → Places p day k (a ∷ xs) → Way p day k a xs
+pub way : (p : Pool) (day k a : ℕ) (xs : List ℕ) → WayPlaces p day k (a ∷ xs) → Way p day k a xs
 way p day k a [] r = (r.each 0 (omega arith), r.last 0 refl)
 way p day k a (b ∷ xs) r = (
   r.each 0 (omega arith),
@@ -64,7 +64,7 @@ links p day first xs c = subst (Links p day first) (sym w.split) (record {
     w : Whole p day first xs
     w = whole p day first xs c
 
-    r : Places p day 0 (first ∷ w.above)
+    r : WayPlaces p day 0 (first ∷ w.above)
     r = places p day 0 first w.above w.way
 
 pub linked : (p : Pool) (day first : ℕ) (xs : List ℕ) → Links p day first xs → Chain p day first xs
@@ -89,7 +89,7 @@ signs p q e a b la lb h =
     let n = and_parts (eqb (p.certificate b).subject (p.certificate a).issuer) (p.signed b a) m.1 in
     rw (e.same a la, e.same b lb) (and_from _ _ m.0 (and_from _ _ n.0 (e.signatures b a lb la n.1)))
 
--- a way is one in every pool that has more
+-- a way of a pool is a way of each pool that extends it
 kept : (p q : Pool) → Extends p q → (day k a : ℕ) (xs : List ℕ) → Way p day k a xs → Way q day k a xs
 kept p q e day k a [] w = (stays p q e day a w.0, e.anchors a w.0.known w.1)
 kept p q e day k a (b ∷ xs) w =

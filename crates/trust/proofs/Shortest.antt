@@ -1,4 +1,4 @@
--- A shortest chain or none, with no repeats and no longer than there are certificates. Assumes nothing.
+-- A shortest chain or none, with no repeats and no longer than there are certificates.
 use Rattle.std.proofs.Common.{◌≡◌, ℕ, zero, suc, ◌+◌, ◌-◌, ◌<◌, ◌≤◌, Bool, true, false, List, [], ◌∷◌, length, get_or, sym, refl, ap, subst, inl, inr, ⊎_elim, arith}
 use native.Mathlib.Decide.{dec_le, dec_lt}
 use Rattle.std.proofs.lemmas.Bool.{cases_order, cases_lt, false≢true}
@@ -40,30 +40,30 @@ top {p} {day} {k} {a} w = go w.above w.way w.long
     go (b ∷ xs) v e = absurd (omega arith)
 
 -- a step to b and a way from there
-abbrev Next : Pool → (day k a n b : ℕ) → Type 0
-Next p day k a n b = Step p k a b × Ways p day (k + 1) b n
+abbrev NextWay : Pool → (day k a n b : ℕ) → Type 0
+NextWay p day k a n b = Step p k a b × Ways p day (k + 1) b n
 
-up : {p : Pool} {day k a n : ℕ} → Ways p day k a (suc n) → Held p day a × ((b : ℕ) × (b < p.count) × Next p day k a n b)
+up : {p : Pool} {day k a n : ℕ} → Ways p day k a (suc n) → Held p day a × ((b : ℕ) × (b < p.count) × NextWay p day k a n b)
 up {p} {day} {k} {a} {n} w = go w.above w.way w.long
   where
-    go : (xs : List ℕ) → Way p day k a xs → length xs ≡ suc n → Held p day a × ((b : ℕ) × (b < p.count) × Next p day k a n b)
+    go : (xs : List ℕ) → Way p day k a xs → length xs ≡ suc n → Held p day a × ((b : ℕ) × (b < p.count) × NextWay p day k a n b)
     go [] v e = absurd (omega arith)
     go (b ∷ xs) v e = (v.0, (b, (held p day (k + 1) b xs v.2).known, (v.1, record { above = xs; way = v.2; long = omega arith })))
 
--- whether there is a way over exactly n
+-- decided: is there a way over exactly n certificates
 pub ways? : (p : Pool) (day k a n : ℕ) → Dec (Ways p day k a n)
 ways? p day k a zero = via (λ h. record { above = []; way = h; long = refl }) top (both? (held? p day a) (true? (p.anchor a)))
 ways? p day k a (suc n) =
     via (λ h. record { above = h.1.0 ∷ h.1.2.1.above; way = (h.0, h.1.2.0, h.1.2.1.way); long = ap suc h.1.2.1.long }) up
-    (both? (held? p day a) (some_below (Next p day k a n) (λ b. both? (step? p k a b) (ways? p day (k + 1) b n)) p.count))
+    (both? (held? p day a) (some_below (NextWay p day k a n) (λ b. both? (step? p k a b) (ways? p day (k + 1) b n)) p.count))
 
--- a way that is longer than there are certificates can be cut
+-- a way over as many certificates as there are can be cut
 over : (p : Pool) (day k a : ℕ) (xs : List ℕ) → Way p day k a xs → p.count ≤ length xs → Shorter p day k a (length xs)
 over p day k a xs w l =
     let t = twice p.count (length (a ∷ xs)) (λ i. get_or (a ∷ xs) i 0) (known_from p day k a xs w) (omega arith) in
     cut p day k a xs w t.i t.j t.before t.within t.same
 
--- so there is one that is not
+-- so some way is over fewer
 pub within : (p : Pool) (day k a fuel : ℕ) (xs : List ℕ) → Way p day k a xs → length xs < fuel → Shorter p day k a p.count
 within p day k a zero xs w l = absurd (omega arith)
 within p day k a (suc fuel) xs w l =

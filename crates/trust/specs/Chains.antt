@@ -1,7 +1,7 @@
--- Certificates, who issues whom, and the chains that lead up to a trust anchor. Assumes nothing: these are definitions.
+-- Certificates, who issues whom, and the chains that lead up to a trust anchor.
 use Rattle.std.specs.Prelude.{◌≡◌, ℕ, ◌+◌, ◌<◌, ◌≤◌, Bool, true, false, ◌&&◌, List, [], ◌∷◌, length, ◌==◌, nat_le, slice_index, slice_index_or}
 
--- what a certificate says: whose it is, who issued it, its first and its last day, whether its subject may issue certificates, and how many certificates may stand between it and the first of a chain
+-- what a certificate says: its subject, its issuer, its first and its last day, whether its subject may issue certificates, and the most certificates that may stand between it and the first of a chain
 pub record Certificate : Type 0 where
   pub subject : ℕ
   pub issuer : ℕ
@@ -10,14 +10,14 @@ pub record Certificate : Type 0 where
   pub may_issue : Bool
   pub path_len : ℕ
 
--- the certificates at hand, by their numbers below count; whether the signature of one under another is valid; which are trust anchors
+-- the certificates at hand, numbered from 0 to below count; whether the signature of a under b is valid; which are trust anchors
 pub record Pool : Type 0 where
   pub count : ℕ
   pub certificate : ℕ → Certificate
-  pub signed : ℕ → ℕ → Bool
+  pub signed : (a b : ℕ) → Bool
   pub anchor : ℕ → Bool
 
--- a certificate holds from its first day to its last, both of them too
+-- a certificate holds from its first day to its last, both included
 unfoldable pub holds : Certificate → (day : ℕ) → Bool
 holds c day = nat_le c.not_before day && nat_le day c.not_after
 
@@ -25,24 +25,29 @@ holds c day = nat_le c.not_before day && nat_le day c.not_after
 unfoldable pub issues : Pool → (a b : ℕ) → Bool
 issues p a b = (p.certificate a).may_issue && ((p.certificate a).subject == (p.certificate b).issuer && p.signed a b)
 
--- up from a certificate: each one holds on the day, the next one issues it and allows as many certificates as stand between that one and the first, and the last one is a trust anchor
-unfoldable pub climbs : Pool → (day between : ℕ) → List ℕ → Bool
-climbs p day k [] = false
-climbs p day k (a ∷ []) = holds (p.certificate a) day && p.anchor a
-climbs p day k (a ∷ (b ∷ xs)) = holds (p.certificate a) day && (issues p b a && (nat_le k (p.certificate b).path_len && climbs p day (k + 1) (b ∷ xs)))
+-- b can stand next above a, with k certificates between b and the first of the chain: it is an issuer of a, allows that many between, and holds on the day
+unfoldable pub follows : Pool → (day k a b : ℕ) → Bool
+follows p day k a b = issues p b a && (nat_le k (p.certificate b).path_len && holds (p.certificate b) day)
 
--- a chain of the pool on a day: it begins with the certificate that is asked about, and climbs to a trust anchor
+-- a list of certificates climbs to a trust anchor, with k certificates between the second one and the first of the chain: each next one can stand above the one before, and the last one is a trust anchor
+unfoldable pub climbs : Pool → (day k : ℕ) → List ℕ → Bool
+climbs p day k [] = false
+climbs p day k (a ∷ []) = p.anchor a
+climbs p day k (a ∷ (b ∷ xs)) = follows p day k a b && climbs p day (k + 1) (b ∷ xs)
+
+-- a chain of the pool on a day: it begins with the certificate asked about, which holds, and climbs to a trust anchor
 pub record Chain (p : Pool) (day first : ℕ) (xs : List ℕ) : Type 0 where
   pub begins : slice_index_or xs 0 0 ≡ first
   pub known : (i : ℕ) → i < length xs → slice_index xs i < p.count
+  pub valid : holds (p.certificate first) day ≡ true
   pub climb : climbs p day 0 xs ≡ true
 
--- a chain than which none is shorter
+-- a chain such that none is shorter
 pub record Shortest (p : Pool) (day first : ℕ) (xs : List ℕ) : Type 0 where
   pub chain : Chain p day first xs
   pub least : (ys : List ℕ) → Chain p day first ys → length xs ≤ length ys
 
--- a pool that has all that another has, and perhaps more certificates behind them, more valid signatures, more trust anchors
+-- q has all that p has, and perhaps more certificates after them, more valid signatures, more trust anchors
 pub record Extends (p q : Pool) : Type 0 where
   pub counts : p.count ≤ q.count
   pub same : (a : ℕ) → a < p.count → q.certificate a ≡ p.certificate a

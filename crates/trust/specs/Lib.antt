@@ -1,3 +1,3 @@
 pub mod Chains
-pub mod Layers
 pub mod Promise
+pub mod inner

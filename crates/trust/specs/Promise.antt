@@ -1,4 +1,4 @@
--- What is promised of chains. Each is a statement; a function of the crate has it as its contract. Assumes nothing: these are definitions.
+-- What is promised of chains; each statement is the contract of a function of this crate.
 use Rattle.std.specs.Prelude.{◌≡◌, ℕ, ◌+◌, ◌<◌, ◌≤◌, true, ◌⊎◌, List, length, slice_index, slice_index_or}
 use Rattle.trust.specs.Chains.{Pool, holds, issues, Chain, Shortest, Extends}
 
@@ -6,11 +6,11 @@ use Rattle.trust.specs.Chains.{Pool, holds, issues, Chain, Shortest, Extends}
 abbrev pub ChainOrNone : Type 0
 ChainOrNone = (p : Pool) (day first : ℕ) → ((xs : List ℕ) × Shortest p day first xs) ⊎ ((xs : List ℕ) → Chain p day first xs → ⊥)
 
--- in a shortest chain no certificate stands twice
+-- in a shortest chain no certificate occurs twice
 abbrev pub NoRepeats : Type 0
 NoRepeats = (p : Pool) (day first : ℕ) (xs : List ℕ) (i j : ℕ) → Shortest p day first xs → i < length xs → j < length xs → slice_index xs i ≡ slice_index xs j → i ≡ j
 
--- no chain need be longer than there are certificates
+-- a shortest chain is no longer than there are certificates
 abbrev pub NoLonger : Type 0
 NoLonger = (p : Pool) (day first : ℕ) (xs : List ℕ) → Shortest p day first xs → length xs ≤ p.count
 
@@ -28,6 +28,6 @@ pub record Links (p : Pool) (day first : ℕ) (xs : List ℕ) : Type 0 where
   pub room : (i : ℕ) → i + 1 < length xs → i ≤ (p.certificate (slice_index xs (i + 1))).path_len
   pub anchored : (i : ℕ) → i + 1 ≡ length xs → p.anchor (slice_index xs i) ≡ true
 
--- the definition of a chain says just that
+-- `Chain` and `Links` say the same
 abbrev pub ChainMeans : Type 0
 ChainMeans = (p : Pool) (day first : ℕ) (xs : List ℕ) → (Chain p day first xs → Links p day first xs) × (Links p day first xs → Chain p day first xs)

@@ -1,4 +1,4 @@
-// Chains of certificates: what is promised of them, each promise on a function of its own.
+// Definitions and laws of certificates and chains; each law is the contract of a function.
 #![tactic(auto)]
 
 ghost use Rattle.trust.specs.Promise.{ChainOrNone, NoRepeats, NoLonger, MoreKeeps, ChainMeans};
@@ -10,14 +10,14 @@ pub fn chain_or_none_stands() -> u8
     0
 }
 
-// In a shortest chain no certificate stands twice.
+// In a shortest chain no certificate occurs twice.
 pub fn no_repeats_stands() -> u8
     ensures { NoRepeats }
 {
     0
 }
 
-// No chain need be longer than there are certificates.
+// A shortest chain is no longer than there are certificates.
 pub fn no_longer_stands() -> u8
     ensures { NoLonger }
 {
@@ -31,7 +31,7 @@ pub fn more_keeps_stands() -> u8
     0
 }
 
-// The definition of a chain, place by place.
+// The definition of a chain says the same as its links, place by place.
 pub fn chain_means_stands() -> u8
     ensures { ChainMeans }
 {

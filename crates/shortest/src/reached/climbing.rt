@@ -1,16 +1,16 @@
-// The way up: those reached get their turns in the order in which they were reached, so layer by layer.
+// The way up: certificates get their turns in the order in which they were reached, so layer by layer.
 ghost use Rattle.std.specs.Prelude.{◌≡◌, ℕ, ◌+◌, ◌<◌, false, replicate, MatchOption, slice_index, slice_set};
-ghost use Rattle.chain.specs.Sixes.{most};
+ghost use Rattle.chain.specs.Inputs.{most};
 ghost use Rattle.chain.specs.Views.{view_pool};
-ghost use Rattle.shortest.specs.Kept.{Kept, Next, Topped, NoneUp};
-ghost use Rattle.shortest.specs.Steps.{far, from};
+ghost use Rattle.shortest.specs.inner.Kept.{Kept, NextTurn, Topped, NoneUp};
+ghost use Rattle.shortest.specs.inner.Steps.{far, from};
 
 use crate::query::Query;
 use crate::reached::{Reached, Step};
-use chain::MOST;
+use chain::{MOST, follows};
 
 impl Reached {
-    // Only the certificate that is asked about is reached.
+    // The start: only the certificate asked about is reached.
     pub(crate) fn begin(asked: &Query) -> Reached
         ensures far { far result.steps ≡ slice_set (replicate most 0) asked.now.first 1 }
         ensures from { from result.steps ≡ replicate most 0 }
@@ -38,7 +38,7 @@ impl Reached {
         usize::from(self.steps[a].unwrap().layer)
     }
 
-    // The one below a, 0 if a was not reached: `from` of the layers is a list with a number for each.
+    // The certificate from which a was reached, 0 if a was not reached.
     pub(crate) fn below(&self, a: usize) -> usize
         requires { a < most }
         ensures { result ≡ slice_index (from self.now.steps) a }
@@ -46,15 +46,15 @@ impl Reached {
         self.steps[a].map_or(0, |step| usize::from(step.below))
     }
 
-    // The turn of y above x, which is in layer k.
+    // Puts y into the queue if it is new and can stand next above x, which is in layer k.
     fn reach(&mut self, asked: &Query, k: usize, x: usize, y: usize)
         requires y_known { y < (view_pool asked.now.view).count }
-        requires next_before { Next self.old self.old.over k x }
+        requires next_before { NextTurn self.old self.old.over k x }
         requires kept_before { Kept asked.now self.old y }
-        ensures next { Next self.new self.old.over k x }
+        ensures next { NextTurn self.new self.old.over k x }
         ensures kept { Kept asked.now self.new (y + 1) }
     {
-        if self.steps[y].is_none() && asked.follows(k, x, y) {
+        if self.steps[y].is_none() && follows(&asked.view, asked.day, k, x, y) {
             self.steps[y] = Some(Step {
                 layer: (k + 1) as u8,
                 below: x as u8,
@@ -64,9 +64,9 @@ impl Reached {
         }
     }
 
-    // The turn of x, the next one and no trust anchor: all that can stand next above it are reached, unless all are already.
+    // The turn of x, the next one in the queue and no trust anchor: reaches all that can stand next above it, unless all are reached already.
     fn turn(&mut self, asked: &Query, k: usize, x: usize)
-        requires next { Next self.old self.old.over k x }
+        requires next { NextTurn self.old self.old.over k x }
         requires no_anchor { (view_pool asked.now.view).anchor x ≡ false }
         requires kept_before { Kept asked.now self.old 0 }
         ensures over { self.new.over ≡ self.old.over + 1 }
@@ -76,21 +76,25 @@ impl Reached {
             self.over += 1;
             return;
         }
+        // A local copy, so that the loop's own test serves for the one in `follows`.
+        let asked = *asked;
         for y in 0..asked.view.count() {
-            self.reach(asked, k, x, y);
+            self.reach(&asked, k, x, y);
         }
         self.over += 1;
     }
 
-    // The trust anchor of a shortest chain, if there is a chain.
+    // Searches for the trust anchor of a shortest chain.
     pub(crate) fn climb(&mut self, asked: &Query) -> Option<usize>
         requires { Kept asked.now self.old 0 }
         ensures { MatchOption result (NoneUp asked.now) (λ a. (k : ℕ) × Topped asked.now self.new k a) }
     {
-        // More are reached on the way: the one at `over` keeps its turn until all above it are.
         while self.over < self.size {
             let x = usize::from(self.order[self.over]);
-            if asked.view.at(x).is_anchor() {
+            let Some(certificate) = asked.view.get(x) else {
+                return None;
+            };
+            if certificate.is_anchor() {
                 return Some(x);
             }
             let k = self.layer(x);

@@ -1,7 +1,7 @@
 use Rattle.std.proofs.Common.{◌<◌}
-use Rattle.chain.specs.Sixes.{most}
+use Rattle.chain.specs.Inputs.{most}
 use Rattle.shortest.proofs.Laying.{Laying}
-use Rattle.shortest.specs.Steps.{from}
+use Rattle.shortest.specs.inner.Steps.{from}
 use Rattle.shortest.proofs.layout.lay_out.Given as goal
 
 abbrev pub invariant-loop-i : goal.invariant-loop-i

@@ -1,6 +1,6 @@
 use Rattle.std.proofs.Common.{arith}
 use Rattle.std.proofs.lemmas.Bool.Decides.{nat_tests}
-use Rattle.chain.specs.Sixes.{faulty}
+use Rattle.chain.specs.Rejections.{faulty}
 use Rattle.chain.proofs.Tests.{first_decides}
 use Rattle.chain.proofs.input.PoolInput.certificates_well.Goals as goal
 

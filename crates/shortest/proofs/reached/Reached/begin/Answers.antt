@@ -1,5 +1,5 @@
 use Rattle.std.proofs.Common.{refl}
-use Rattle.chain.specs.Sixes.{most}
+use Rattle.chain.specs.Inputs.{most}
 use Rattle.shortest.proofs.Steps.{far_begun, from_begun}
 use Rattle.shortest.proofs.reached.Reached.begin.Goals as goal
 

@@ -1,6 +1,6 @@
 use Rattle.std.proofs.Common.{◌-◌}
-use Rattle.chain.specs.Sixes.{most}
-use Rattle.shortest.specs.Kept.{Kept}
+use Rattle.chain.specs.Inputs.{most}
+use Rattle.shortest.specs.inner.Kept.{Kept}
 use Rattle.shortest.proofs.reached.Reached.climb.Given as goal
 
 abbrev pub invariant-loop-self : goal.invariant-loop-self

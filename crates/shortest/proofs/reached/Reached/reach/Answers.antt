@@ -1,9 +1,8 @@
-use Rattle.std.proofs.Common.{◌≡◌, ◌+◌, true, false, get_or, sym, refl, ap, ◌∙◌, inl, inr, arith}
+use Rattle.std.proofs.Common.{◌≡◌, ◌+◌, get_or, sym, refl, ap, ◌∙◌, inl, inr, arith}
 use Rattle.std.proofs.lemmas.List.{get_or-set_other}
-use Rattle.trust.proofs.Layers.{at_hand, fits, pushed, passed}
-use Rattle.shortest.specs.Steps.{far}
+use Rattle.trust.proofs.Layers.{fits, pushed, passed}
+use Rattle.shortest.specs.inner.Steps.{far}
 use Rattle.shortest.specs.declared.reached.Step.{Step}
-use Rattle.shortest.proofs.Follows.{known}
 use Rattle.shortest.proofs.Steps.{far_set, from_set, reached, unreached}
 use Rattle.shortest.proofs.reached.Reached.reach.Goals as goal
 use Rattle.shortest.proofs.reached.Reached.reach.Goals.{else-is_none-via-then-is_none+else-follows, else-is_none-via-else-is_none}
@@ -28,14 +27,11 @@ pub returns-then-follows-clause-kept : goal.returns-then-follows-clause-kept
 returns-then-follows-clause-kept c =
     let steps = c.args.self.now.steps in
     let s : Step = record { layer = c.args.k + 1; below = c.args.x } in
-    let l = at_hand _ _ _ _ _ _ _ _ _ _ _ c.requires.kept_before c.requires.next_before.within c.requires.next_before.here c.requires.next_before.layer c.requires.y_known in
-    let f = known _ _ _ _ _ true l c.requires.y_known c.if-follows.ensures in
-    rw (far_set steps c.args.y (c.args.k + 2) s (omega arith), from_set steps c.args.y s) (pushed _ _ _ _ _ _ _ _ _ _ _ c.requires.kept_before c.requires.next_before.within c.requires.next_before.here c.requires.next_before.layer c.requires.y_known (unreached steps c.args.y c.if-is_none.ensures) f)
+    rw (far_set steps c.args.y (c.args.k + 2) s (omega arith), from_set steps c.args.y s) (pushed _ _ _ _ _ _ _ _ _ _ _ c.requires.kept_before c.requires.next_before.within c.requires.next_before.here c.requires.next_before.layer c.requires.y_known (unreached steps c.args.y c.if-is_none.ensures) c.if-follows.ensures)
 
 pub returns-else-is_none-clause-kept : goal.returns-else-is_none-clause-kept
 returns-else-is_none-clause-kept c =
-    let l = at_hand _ _ _ _ _ _ _ _ _ _ _ c.requires.kept_before c.requires.next_before.within c.requires.next_before.here c.requires.next_before.layer c.requires.y_known in
     passed _ _ _ _ _ _ _ _ _ _ _ c.requires.kept_before c.requires.next_before.within c.requires.next_before.here c.requires.next_before.layer c.requires.y_known (elim c.else-is_none.branch [
-      | else-is_none-via-then-is_none+else-follows w ↦ inr (sym (known _ _ _ _ _ false l c.requires.y_known w.if-follows.ensures))
+      | else-is_none-via-then-is_none+else-follows w ↦ inr (sym w.if-follows.ensures)
       | else-is_none-via-else-is_none w ↦ inl (reached c.args.self.now.steps c.args.y w.if-is_none.ensures)
     ])

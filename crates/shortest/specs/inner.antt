@@ -1,0 +1,3 @@
+pub mod Kept
+pub mod LaidOut
+pub mod Steps
