@@ -1,15 +1,15 @@
--- What is written is read again as it was. Assumes nothing.
+-- What is written is read again as it was.
 use Rattle.std.proofs.Common.{◌≡◌, ℕ, ◌+◌, ◌-◌, ◌*◌, ◌/◌, ◌%◌, ◌^◌, ◌<◌, ◌≤◌, true, false, cond, ◌&&◌, leb, List, [], ◌∷◌, ◌++◌, Some, None, decimal, Option, refl, ap, ◌∙◌, ap₂, ⊎_elim, arith}
-use Rattle.std.specs.List.{flat_map}
+use Rattle.std.specs.List.{flat_map, All}
+use Rattle.std.proofs.lemmas.List.Elements.{All-head, All-tail}
 use Rattle.std.specs.Char.{digit_char as digitChar}
 use Rattle.std.proofs.lemmas.Fmt.{decimal_by_steps, decimal_nonempty}
 use Rattle.std.proofs.lemmas.Bool.{le-leb, lt-leb, lt-ltb, le-ltb, ne_eqb, and_from, and_right, or_from, cases_lt}
 use Rattle.text.specs.Tokens.{blank, words}
-use Rattle.text.specs.Figures.{both, digit, with_digit, decimal_after, below, hex_digit, word_bytes, bytes_of}
+use Rattle.text.specs.inner.Figures.{both, number, digit, with_digit, decimal_after, below, hex_digit, word_bytes, bytes_of}
 use Rattle.text.specs.Meaning.{number_limit}
 use Rattle.text.specs.Texts.{blank_before, hex_text, spaced}
 use Rattle.text.specs.Promise.{WordEnds}
-use Rattle.text.specs.Promise.{Bytes, FiguresStand}
 use Rattle.text.proofs.Cuts.{words_nil}
 use Rattle.text.proofs.Laws.{past_blank, word_in_front}
 use Rattle.text.proofs.Values.{below_some, number_some}
@@ -43,7 +43,7 @@ number_again n lt =
     all m = omega arith
 
 -- a digit of base sixteen is no blank, and is read again
-hex_again : (d : ℕ) → d < 16 → hex_digit (digitChar d) ≡ Some d
+pub hex_again : (d : ℕ) → d < 16 → hex_digit (digitChar d) ≡ Some d
 hex_again d lt = ⊎_elim low high (cases_lt d 10)
   where
     low : d < 10 → hex_digit (digitChar d) ≡ Some d
@@ -83,18 +83,15 @@ blank_first : (bs : List ℕ) → WordEnds (flat_map (blank_before hex_text) bs)
 blank_first [] = tt
 blank_first (b ∷ bs) = refl
 
-row_again : (bs : List ℕ) → Bytes bs → bytes_of (words (flat_map (blank_before hex_text) bs)) ≡ Some bs
+row_again : (bs : List ℕ) → All (λ b. b < 256) bs → bytes_of (words (flat_map (blank_before hex_text) bs)) ≡ Some bs
 unfolding bytes_of
 row_again [] h = ap bytes_of words_nil
-row_again (b ∷ bs) h = ap bytes_of (past_blank 32 (hex_text b ++ flat_map (blank_before hex_text) bs) refl) ∙ word_then b _ bs h.0 (blank_first bs) (row_again bs h.1)
+row_again (b ∷ bs) h = ap bytes_of (past_blank 32 (hex_text b ++ flat_map (blank_before hex_text) bs) refl) ∙ word_then b _ bs (All-head (λ b. b < 256) b bs h) (blank_first bs) (row_again bs (All-tail (λ b. b < 256) b bs h))
 
-bytes_again : (bs : List ℕ) → Bytes bs → bytes_of (words (spaced hex_text bs)) ≡ Some bs
+pub bytes_again : (bs : List ℕ) → All (λ b. b < 256) bs → bytes_of (words (spaced hex_text bs)) ≡ Some bs
 unfolding bytes_of
 bytes_again [] h = ap bytes_of words_nil
-bytes_again (b ∷ bs) h = word_then b (flat_map (blank_before hex_text) bs) bs h.0 (blank_first bs) (row_again bs h.1)
+bytes_again (b ∷ bs) h = word_then b (flat_map (blank_before hex_text) bs) bs (All-head (λ b. b < 256) b bs h) (blank_first bs) (row_again bs (All-tail (λ b. b < 256) b bs h))
 
-pub figures_stand : FiguresStand
-figures_stand = record {
-  numbers = λ n lt. number_some number_limit (decimal n) (decimal_nonempty n lt) ∙ ap (below number_limit) (number_again n lt) ∙ below_some number_limit n lt;
-  bytes = bytes_again;
-}
+pub printed_again : (n : ℕ) → n < number_limit → number number_limit (decimal n) ≡ Some n
+printed_again n lt = number_some number_limit (decimal n) (decimal_nonempty n lt) ∙ ap (below number_limit) (number_again n lt) ∙ below_some number_limit n lt

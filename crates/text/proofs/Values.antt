@@ -1,11 +1,13 @@
--- Numbers and bytes, one word, digit or byte at a time. Assumes nothing.
-use Rattle.std.proofs.Common.{◌≡◌, ℕ, ◌+◌, ◌-◌, ◌*◌, ◌<◌, ◌≤◌, Bool, true, false, cond, ◌&&◌, ltb, leb, List, [], ◌∷◌, ◌++◌, length, get_or, drop, Some, None, Option, Ok, Err, is_err, Result, sym, refl, ap, ◌∙◌, append_assoc, append-nil, arith}
+-- Numbers and bytes, one word, digit or byte at a time.
+use Rattle.std.proofs.Common.{◌≡◌, ℕ, ◌+◌, ◌-◌, ◌*◌, ◌<◌, ◌≤◌, Bool, true, false, cond, ◌&&◌, ltb, leb, List, [], ◌∷◌, ◌++◌, length, get_or, drop, Some, None, Option, Ok, Err, Result, sym, refl, ap, ◌∙◌, subst, append_assoc, append-nil, arith}
 use Rattle.std.specs.Option.{option_map}
+use Rattle.std.specs.Result.{IsErrAnd}
 use Rattle.std.proofs.lemmas.List.{at_drop_more, at_drop_all}
 use Rattle.std.proofs.lemmas.Bool.{le-ltb, lt-ltb, ltb-true, ltb-false}
 use Rattle.text.specs.declared.error.LineError.{LineError}
-use Rattle.text.specs.Reading.{ReadsAs}
-use Rattle.text.specs.Figures.{both, with_digit, decimal_after, below, number, hex_pair, word_bytes, bytes_of, all_of}
+use Rattle.text.specs.declared.error.LineError.TheVariants.{Unreadable, Memory}
+use Rattle.text.specs.Reading.{FailsBy, ReadsAs}
+use Rattle.text.specs.inner.Figures.{both, with_digit, decimal_after, below, number, hex_pair, word_bytes, bytes_of, all_of}
 
 module _ (limit : ℕ) where
   -- a number that has reached the limit stays there
@@ -16,7 +18,7 @@ module _ (limit : ℕ) where
   below_some n lt = rw (lt-ltb n limit lt)
 
   -- what is below a limit is there
-  from_below : (o : Option ℕ) (m : ℕ) → Some m ≡ below limit o → o ≡ Some m
+  pub from_below : (o : Option ℕ) (m : ℕ) → Some m ≡ below limit o → o ≡ Some m
   from_below None m e = cc
   from_below (Some n) m e = go (ltb n limit) e
     where
@@ -24,7 +26,7 @@ module _ (limit : ℕ) where
       go true e = sym e
       go false e = cc
 
-  below_lt : (o : Option ℕ) (m : ℕ) → Some m ≡ below limit o → m < limit
+  pub below_lt : (o : Option ℕ) (m : ℕ) → Some m ≡ below limit o → m < limit
   below_lt None m e = let z : ◌≡◌ {A = ℕ} 0 1 = cc in absurd (omega arith)
   below_lt (Some n) m e = go (ltb n limit) refl e
     where
@@ -171,7 +173,20 @@ unfolding word_bytes
 pairs_end xs [] none = onto_end xs
 pairs_end xs (h ∷ w) none = absurd (omega arith)
 
--- nothing is said where a reading fails
-pub reads_none : {T X : Type 0} (shows : T → X) (r : Result T LineError) (said : Option X) → is_err r ≡ true → said ≡ None → ReadsAs shows r said
-reads_none shows (Ok x) said err none = cc
-reads_none shows (Err e) said err none = λ _. none
+module _ {T X : Type 0} (shows : T → X) (r : Result T LineError) (said : Option X) (stores : Type 0) (e : LineError) where
+  -- an error that is handed on
+  fails_by : (r : Result T LineError) → IsErrAnd r (λ f. f ≡ e) → FailsBy e said stores → ReadsAs shows r said stores
+  fails_by (Ok x) is h = absurd is
+  fails_by (Err f) is h = subst (λ g. FailsBy g said stores) (sym is) h
+
+  pub unreadable : IsErrAnd r (λ f. f ≡ e) → e ≡ Unreadable → said ≡ None → ReadsAs shows r said stores
+  unreadable is same none = fails_by r is (subst (λ g. FailsBy g said stores) (sym same) none)
+
+  pub fails_within : {Y : Type 0} (part : Option Y) (some : Type 0) → IsErrAnd r (λ f. f ≡ e) → FailsBy e part some → (part ≡ None → said ≡ None) → (some → stores) → ReadsAs shows r said stores
+  fails_within part some is h none more = fails_by r is (elim e as (λ g. FailsBy g part some → FailsBy g said stores) [ Unreadable ↦ none | Memory a ↦ more ] h)
+
+-- the same of what is to be stored
+pub reads_more : {T X : Type 0} (shows : T → X) (r : Result T LineError) (said : Option X) (some stores : Type 0) → (some → stores) → ReadsAs shows r said some → ReadsAs shows r said stores
+reads_more shows (Ok x) said some stores more h = h
+reads_more shows (Err Unreadable) said some stores more h = h
+reads_more shows (Err (Memory e)) said some stores more h = more h

@@ -1,6 +1,7 @@
-pub mod Figures
+pub mod Grammar
 pub mod Meaning
 pub mod Promise
 pub mod Reading
 pub mod Texts
 pub mod Tokens
+pub mod inner

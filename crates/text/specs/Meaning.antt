@@ -1,80 +1,17 @@
--- What a line says. Assumes nothing: these are definitions.
-use Rattle.std.specs.Prelude.{ℕ, ◌^◌, Bool, cond, List, [], ◌∷◌, Some, None, vec_items, codes, Option, ◌==◌, slice_index}
-use Rattle.std.specs.Option.{option_map}
-use Rattle.std.specs.Str.{bytes_eq}
+-- What a line says: by the law `MeaningStand`, what the grammar of Grammar.antt has.
+use Rattle.std.specs.Prelude.{ℕ, List, Option, vec_items}
+pub use Rattle.text.specs.Grammar.{Meaning, nothing, paper, seals, trusted, piece, chain, mark_limit, number_limit}
 use Rattle.text.specs.Tokens.{words}
-use Rattle.text.specs.Figures.{both, number, numbers, bytes_of}
+use Rattle.text.specs.inner.Saying.{words_say}
 use Rattle.text.specs.declared.command.Command.{Command}
 use Rattle.text.specs.declared.command.Command.TheVariants as command
-use Rattle.text.specs.declared.command.Key.{Key}
-use Rattle.text.specs.declared.command.Key.TheVariants.{Comment, Paper, Seals, Trusted, Piece, Chain, Other}
-
--- what a line says: nothing, the bytes of a paper, marks of seals, marks of trusted papers, the piece of a paper by a path, or the chain from a paper on a day
-pub data Says : Type 0 where
-  nothing : Says
-  paper : (bytes : List ℕ) → Says
-  seals : (marks : List ℕ) → Says
-  trusted : (marks : List ℕ) → Says
-  piece : (paper : ℕ) → (path : List ℕ) → Says
-  chain : (first day : ℕ) → Says
-
--- a word that begins with `#` begins a comment
-abbrev pub comment : List ℕ → Bool
-comment w = slice_index w 0 == 35
-
--- what the first word of a line says of it
-abbrev pub key_of : List ℕ → Key
-key_of w = cond (comment w) Comment (cond (bytes_eq w (codes "paper")) Paper (cond (bytes_eq w (codes "seals")) Seals (cond (bytes_eq w (codes "trusted")) Trusted (cond (bytes_eq w (codes "piece")) Piece (cond (bytes_eq w (codes "chain")) Chain Other)))))
-
--- a mark is below 256, any other number below 2 ^ 64
-abbrev pub mark_limit : ℕ
-mark_limit = 256
-
-abbrev pub number_limit : ℕ
-number_limit = 2 ^ 64
-
--- a number and nothing behind it
-abbrev pub only_number : List (List ℕ) → Option ℕ
-only_number [] = None
-only_number (w ∷ []) = number number_limit w
-only_number (w ∷ (v ∷ ws)) = None
-
--- the word `day` and the number of a day
-abbrev pub day_of : List (List ℕ) → Option ℕ
-day_of [] = None
-day_of (w ∷ ws) = cond (bytes_eq w (codes "day")) (only_number ws) None
-
--- what the words behind `chain` say: the number of a paper and a day
-abbrev pub chain_of : List (List ℕ) → Option Says
-chain_of [] = None
-chain_of (w ∷ ws) = both chain (number number_limit w) (day_of ws)
-
--- what the words behind `piece` say: the number of a paper and a path
-abbrev pub piece_of : List (List ℕ) → Option Says
-piece_of [] = None
-piece_of (p ∷ ws) = both piece (number number_limit p) (numbers number_limit ws)
-
--- what the words behind the first say
-abbrev pub rest_says : Key → List (List ℕ) → Option Says
-rest_says Comment ws = Some nothing
-rest_says Paper ws = option_map paper (bytes_of ws)
-rest_says Seals ws = option_map seals (numbers mark_limit ws)
-rest_says Trusted ws = option_map trusted (numbers mark_limit ws)
-rest_says Piece ws = piece_of ws
-rest_says Chain ws = chain_of ws
-rest_says Other ws = None
-
--- what words say
-abbrev pub words_say : List (List ℕ) → Option Says
-words_say [] = Some nothing
-words_say (w ∷ ws) = rest_says (key_of w) ws
 
 -- what a line says; none if it can't be read
-unfoldable pub meaning : List ℕ → Option Says
+unfoldable pub meaning : List ℕ → Option Meaning
 meaning line = words_say (words line)
 
 -- what a command says
-abbrev pub says : Command → Says
+abbrev pub says : Command → Meaning
 says command.Nothing = nothing
 says (command.Paper v) = paper (vec_items v)
 says (command.Seals v) = seals (vec_items v)

@@ -1,5 +1,5 @@
--- The texts of the answers. Assumes nothing: these are definitions.
-use Rattle.std.specs.Prelude.{◌≡◌, ℕ, ◌*◌, ◌/◌, ◌%◌, List, [], ◌∷◌, ◌++◌, replicate, codes, decimal, Option, Result, MatchResult}
+-- The lines of the answers.
+use Rattle.std.specs.Prelude.{◌≡◌, ℕ, ◌<◌, length, ◌*◌, ◌/◌, ◌%◌, List, [], ◌∷◌, ◌++◌, replicate, codes, decimal, Option, Result, MatchResult}
 use Rattle.std.specs.Option.{unwrap_or}
 use Rattle.std.specs.List.{flat_map}
 use Rattle.std.specs.Char.{digit_char}
@@ -12,7 +12,7 @@ line_feed = 10 ∷ []
 abbrev pub blank_before : {X : Type 0} → (X → List ℕ) → X → List ℕ
 blank_before text x = 32 ∷ text x
 
--- the texts of a row's elements with one blank between
+-- the texts of a row's items, one blank between them
 abbrev pub spaced : {X : Type 0} → (X → List ℕ) → List X → List ℕ
 spaced text [] = []
 spaced text (x ∷ xs) = text x ++ flat_map (blank_before text) xs
@@ -21,7 +21,7 @@ spaced text (x ∷ xs) = text x ++ flat_map (blank_before text) xs
 abbrev pub hex_text : ℕ → List ℕ
 hex_text b = digit_char (b / 16) ∷ (digit_char (b % 16) ∷ [])
 
--- `0 2 3`: the papers of a chain
+-- `0 2 3`: the papers of a chain, by their indices
 abbrev pub chain_text : List ℕ → List ℕ
 chain_text row = spaced decimal row ++ line_feed
 
@@ -33,11 +33,19 @@ none_text = codes "none" ++ line_feed
 abbrev pub refusal_text : (number place : ℕ) → List ℕ
 refusal_text number place = codes "refused " ++ (decimal number ++ (codes " at " ++ (decimal place ++ line_feed)))
 
+-- the number of the rejection of a line that can't be read
+abbrev pub unreadable_number : ℕ
+unreadable_number = 5
+
+-- `refused 5 at 7`: the rejection of a line
+abbrev pub unreadable_text : (line : ℕ) → List ℕ
+unreadable_text line = refusal_text unreadable_number line
+
 -- `ill at 17`
 abbrev pub ill_text : ℕ → List ℕ
 ill_text at = codes "ill at " ++ (decimal at ++ line_feed)
 
--- `02 00`: bytes
+-- `02 00`: bytes in base sixteen
 abbrev pub bytes_text : List ℕ → List ℕ
 bytes_text bs = spaced hex_text bs ++ line_feed
 
@@ -45,14 +53,14 @@ bytes_text bs = spaced hex_text bs ++ line_feed
 abbrev pub indent : ℕ → List ℕ
 indent level = replicate (2 * level) 32
 
--- `  01 41`: an element at its level, by its tag and its contents; none of a constructed one
+-- `  01 41`: an element's tag and contents, two blanks further in for each level; no contents of a constructed one
 abbrev pub element_text : (level tag : ℕ) → (contents : Option (List ℕ)) → List ℕ
 element_text level tag contents = indent level ++ bytes_text (tag ∷ unwrap_or contents [])
 
--- new bytes that begin with the old
-abbrev pub Begins : (old new : List ℕ) → Type 0
-Begins old new = (more : List ℕ) × (new ≡ old ++ more)
+-- the new bytes begin with the old
+abbrev pub StartsWith : (old new : List ℕ) → Type 0
+StartsWith old new = (more : List ℕ) × (new ≡ old ++ more)
 
--- the text is put behind the old bytes; if memory fails, the old bytes still stand in front
-abbrev pub Appends : {T E : Type 0} → Result T E → (old text new : List ℕ) → Type 0
-Appends r old text new = MatchResult r (λ _. new ≡ old ++ text) (λ _. Begins old new)
+-- a text is appended; out of memory, which needs a text that isn't empty, the old bytes still stand in front
+abbrev pub AppendsText : {T E : Type 0} → Result T E → (old text new : List ℕ) → Type 0
+AppendsText r old text new = MatchResult r (λ _. new ≡ old ++ text) (λ _. (0 < length text) × StartsWith old new)

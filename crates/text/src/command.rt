@@ -1,8 +1,9 @@
-// A line read as a command.
-ghost use Rattle.std.specs.Prelude.{◌≡◌};
+// Lines read as commands.
+ghost use Rattle.std.specs.Prelude.{◌≡◌, ◌<◌, length};
 ghost use Rattle.std.specs.Option.{option_map};
-ghost use Rattle.text.specs.Meaning.{key_of, only_number, day_of, chain_of, piece_of, words_say, meaning, says};
-ghost use Rattle.text.specs.Reading.{ReadsAs};
+ghost use Rattle.text.specs.Meaning.{meaning, says};
+ghost use Rattle.text.specs.inner.Saying.{key_of, only_number, day_of, chain_of, piece_of, words_say, StoredWords};
+ghost use Rattle.text.specs.Reading.{ReadsAs, StoresWords};
 ghost use Rattle.text.specs.Tokens.{words as words_of};
 
 use crate::error::LineError;
@@ -10,19 +11,24 @@ use crate::figures::{parse_number, read_bytes, read_marks, read_numbers};
 use crate::tokens::Words;
 use std::alloc::Global;
 
-// What a line says.
+// What a line says; the lines stand in docs/FORMAT.md. Papers are counted from 0; a day is a number as in the permits.
 #[derive(Drop)]
 pub enum Command {
+    // A blank line or a comment.
     Nothing,
+    // The bytes of a permit.
     Paper(Vec<u8>),
+    // Signature marks, below 256.
     Seals(Vec<u8>),
+    // Anchor marks, below 256.
     Trusted(Vec<u8>),
+    // The element of a paper by a path of indices.
     Piece { paper: u64, path: Vec<u64> },
+    // A shortest chain from a paper on a day.
     Chain { first: u64, day: u64 },
 }
 
-// The kinds of lines, by their first word.
-// A kind of its own: with one `match` on the word, which also reads what stands behind it, the last arm is not proved.
+// The kind of a line, by its first word.
 #[derive(Clone, Copy)]
 enum Key {
     Comment,
@@ -34,7 +40,7 @@ enum Key {
     Other,
 }
 
-// What the first word of a line says of it.
+// The kind of the line that begins with a word.
 fn read_key(word: &[u8]) -> Key
     ensures { result ≡ key_of word.now }
 {
@@ -49,7 +55,7 @@ fn read_key(word: &[u8]) -> Key
     }
 }
 
-// A number and nothing behind it.
+// A number as the only word left.
 fn read_last(mut words: Words<'_>) -> Option<u64>
     ensures { result ≡ only_number (words_of words.entry.rest.now) }
 {
@@ -60,7 +66,7 @@ fn read_last(mut words: Words<'_>) -> Option<u64>
     }
 }
 
-// The word `day` and the number of a day.
+// The word `day` and a number.
 fn read_day(mut words: Words<'_>) -> Option<u64>
     ensures { result ≡ day_of (words_of words.entry.rest.now) }
 {
@@ -70,7 +76,7 @@ fn read_day(mut words: Words<'_>) -> Option<u64>
     }
 }
 
-// What stands behind `chain`.
+// The words behind `chain`.
 fn read_chain(mut words: Words<'_>) -> Option<Command>
     ensures { option_map says result ≡ chain_of (words_of words.entry.rest.now) }
 {
@@ -79,9 +85,9 @@ fn read_chain(mut words: Words<'_>) -> Option<Command>
     Some(Command::Chain { first, day })
 }
 
-// What stands behind `piece`.
+// The words behind `piece`.
 fn read_piece(heap: Global, mut words: Words<'_>) -> Result<Command, LineError>
-    ensures { ReadsAs says result (piece_of (words_of words.entry.rest.now)) }
+    ensures { ReadsAs says result (piece_of (words_of words.entry.rest.now)) (1 < length (words_of words.entry.rest.now)) }
 {
     let word = words.next().ok_or(LineError::Unreadable)?;
     let paper = parse_number(word).ok_or(LineError::Unreadable)?;
@@ -89,9 +95,9 @@ fn read_piece(heap: Global, mut words: Words<'_>) -> Result<Command, LineError>
     Ok(Command::Piece { paper, path })
 }
 
-// The command that the words of a line are.
+// The command that words are.
 fn read_words(heap: Global, mut words: Words<'_>) -> Result<Command, LineError>
-    ensures { ReadsAs says result (words_say (words_of words.entry.rest.now)) }
+    ensures { ReadsAs says result (words_say (words_of words.entry.rest.now)) (StoredWords (words_of words.entry.rest.now)) }
 {
     let Some(word) = words.next() else {
         return Ok(Command::Nothing);
@@ -107,9 +113,10 @@ fn read_words(heap: Global, mut words: Words<'_>) -> Result<Command, LineError>
     }
 }
 
-// The command that a line is.
+// The command that a line is: `Unreadable` if it is none, `Memory` if its bytes, marks or path can't be stored.
+// A line that can't be read may fail by `Memory` before that is found, if it begins as one to be stored.
 pub fn read_line(heap: Global, line: &[u8]) -> Result<Command, LineError>
-    ensures { ReadsAs says result (meaning line.now) }
+    ensures { ReadsAs says result (meaning line.now) (StoresWords (words_of line.now)) }
 {
     read_words(heap, Words::new(line))
 }

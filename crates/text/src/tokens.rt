@@ -2,15 +2,15 @@
 ghost use Rattle.std.specs.Prelude.{◌≡◌, ℕ, Bool, length, ◌<◌, ◌∷◌, IfNone, IfSome, []};
 ghost use Rattle.std.specs.Fn.{ComputesKey};
 ghost use Rattle.std.specs.Iterator.{at_most, YieldsFirstRef};
-ghost use Rattle.text.specs.Tokens.{blank, line_end, pieces, words, lines};
+ghost use Rattle.text.specs.Tokens.{blank, line_end, segments, words, lines};
 
-// The words of a line that are not handed out yet.
+// The words of a line that are still to come; blanks are space, tab and carriage return.
 #[derive(Drop)]
 pub struct Words<'a> {
     rest: &'a [u8],
 }
 
-// The lines of a text that are not handed out yet. A line may be empty and a word may not, so these are two types.
+// The lines of a text that are still to come, without their line feeds. Unlike a word, a line may be empty.
 #[derive(Drop)]
 pub struct Lines<'a> {
     rest: &'a [u8],
@@ -30,12 +30,12 @@ fn is_line_end(b: &u8) -> bool
     *b == b'\n'
 }
 
-// The first piece of some bytes and what stands behind its end; none if there are no bytes.
+// The first segment of some bytes and the rest behind its end; `None` if there are no bytes.
 fn cut<'a, F: Fn(&u8) -> bool>(bytes: &'a [u8], ends: F) -> Option<(&'a [u8], &'a [u8])>
     requires { F.IsAlwaysCallable ends }
     ensures none { IfNone result (bytes.now ≡ []) }
     ensures shorter { IfSome result (λ r. length r.1.now < length bytes.now) }
-    ensures first { (p : ℕ → Bool) → ComputesKey F.FnMut p ends → IfSome result (λ r. pieces p bytes.now ≡ r.0.now ∷ pieces p r.1.now) }
+    ensures first { (p : ℕ → Bool) → ComputesKey F.FnMut p ends → IfSome result (λ r. segments p bytes.now ≡ r.0.now ∷ segments p r.1.now) }
 {
     if bytes.is_empty() {
         return None;
@@ -55,7 +55,7 @@ impl<'a> Words<'a> {
     }
 }
 
-// Each word in turn; each leaves fewer bytes.
+// Each word in turn.
 impl<'a> Iterator for Words<'a> {
     type Item = &'a [u8];
 
@@ -83,7 +83,7 @@ impl<'a> Lines<'a> {
     }
 }
 
-// Each line in turn; each leaves fewer bytes.
+// Each line in turn.
 impl<'a> Iterator for Lines<'a> {
     type Item = &'a [u8];
 

@@ -1,5 +1,5 @@
 use Rattle.std.proofs.Common.{rules, sym, ap, ◌∙◌, lit≤}
-use Rattle.text.specs.Figures.{below}
+use Rattle.text.specs.inner.Figures.{below}
 use Rattle.text.specs.Meaning.{number_limit, mark_limit}
 use Rattle.text.proofs.Values.{number_lower}
 use Rattle.text.proofs.figures.parse_mark.Goals as goal

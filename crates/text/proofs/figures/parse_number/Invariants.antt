@@ -1,5 +1,5 @@
 use Rattle.std.proofs.Common.{◌≡◌, ◌<◌, drop, Some}
-use Rattle.text.specs.Figures.{below, decimal_after, number}
+use Rattle.text.specs.inner.Figures.{below, decimal_after, number}
 use Rattle.text.specs.Meaning.{number_limit}
 use Rattle.text.proofs.figures.parse_number.Given as goal
 

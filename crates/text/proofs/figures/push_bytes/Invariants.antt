@@ -1,6 +1,6 @@
 use Rattle.std.proofs.Common.{◌≡◌, vec_items}
 use Rattle.std.specs.Slice.Iter.{chunks_rest, chunks_size}
-use Rattle.text.specs.Figures.{word_bytes}
+use Rattle.text.specs.inner.Figures.{word_bytes}
 use Rattle.text.proofs.Values.{onto}
 use Rattle.text.proofs.figures.push_bytes.Given as goal
 

@@ -1,5 +1,5 @@
 use Rattle.std.proofs.Common.{rules}
-use Rattle.text.specs.Figures.{number, numbers}
+use Rattle.text.specs.inner.Figures.{number, numbers}
 use Rattle.text.specs.Meaning.{number_limit}
 use Rattle.text.proofs.figures.read_numbers.Goals as goal
 
