@@ -1,10 +1,11 @@
 // The program `permit`: reads a text of papers, marks and questions, and answers it line by line.
+#![tactic(auto)]
+
 use anyhow::anyhow;
-use session::Book;
+use session::answer_text;
 use std::io::{BufWriter, Read, Write};
 use std::process::ExitCode;
 use std::{env, fs};
-use text::Lines;
 
 const VERSION: &str = "permit, proved with rattle-kit-13f logic dac8208d650f15bf\n";
 
@@ -13,14 +14,17 @@ const HELP: &str = "permit [FILE]
 Reads a text from FILE or standard input, all of it first, and answers its lines in their order.
 
   paper HEX..      the bytes of a permit; its elements, one a line and two blanks further in for
-                   each level, or `ill at K`: from byte K on nothing could mend it
+                   each level, or `ill at K`: with byte K, counted from 0, nothing behind could
+                   mend it; if K is how many bytes there are, the end comes too soon, and more
+                   bytes could
   seals M M ..     marks, for each paper a row: 1 where its seal under a paper is right
-  trusted M M ..   marks, one for each paper: 1 if its authority is trusted
+  trusted M M ..   marks, one for each paper: 1 if that paper is a trust anchor
   piece P W W ..   the element of paper P by the path W W .., or `none`
-  chain A day D    the papers of a shortest chain from A to a trusted one on day D, or `none`
+  chain A day D    the papers of a shortest chain from A to a trust anchor on day D, or `none`
 
 Marks have no answer, nor has a blank line or one with `#` first. Papers, elements and lines are
-counted from 0. All papers and marks count for every chain, wherever they stand in the text.
+counted from 0. All papers and marks count for every piece and chain, wherever they stand in
+the text.
 What can't be answered is refused, `refused N at PLACE`:
 
   1  there is no paper, there are more than 200, or one is no permit
@@ -30,26 +34,26 @@ What can't be answered is refused, `refused N at PLACE`:
 ";
 
 // What the command line asks for.
-enum Asked {
+enum Request {
     Help,
     Version,
     Input,
     File(String),
 }
 
-fn read_args(rt: &HostRuntime) -> anyhow::Result<Asked> {
+fn read_args(rt: &HostRuntime) -> anyhow::Result<Request> {
     let mut args = env::args(rt)?;
     let _ = args.next();
     let Some(first) = args.next() else {
-        return Ok(Asked::Input);
+        return Ok(Request::Input);
     };
     if args.next().is_some() {
         return Err(anyhow!("one file at most; `permit --help` says more"));
     }
     Ok(match first.as_str() {
-        "--help" => Asked::Help,
-        "--version" => Asked::Version,
-        _ => Asked::File(first),
+        "--help" => Request::Help,
+        "--version" => Request::Version,
+        _ => Request::File(first),
     })
 }
 
@@ -68,27 +72,21 @@ fn read_file(rt: &HostRuntime, path: &str) -> anyhow::Result<Vec<u8>> {
     }
 }
 
-// Answers the lines of a text.
+// Answers a text on standard output.
 fn answer(rt: &HostRuntime, text: &[u8]) -> anyhow::Result<()> {
     let heap = rt.alloc();
-    let book = Book::read(heap, text)?;
     let mut out = BufWriter::new(heap, rt.stdout())?;
-    let mut answer = Vec::new(heap);
-    for (number, line) in Lines::new(text).enumerate() {
-        book.answer(heap, number as u64, line, &mut answer)?;
-        out.write_all(&answer)?;
-        answer.clear();
-    }
+    answer_text(heap, text, &mut out)?;
     out.flush()?;
     Ok(())
 }
 
 fn run(rt: &HostRuntime) -> anyhow::Result<()> {
     match read_args(rt)? {
-        Asked::Help => Ok(rt.print(HELP)?),
-        Asked::Version => Ok(rt.print(VERSION)?),
-        Asked::Input => answer(rt, &read_input(rt)?),
-        Asked::File(path) => answer(rt, &read_file(rt, path.as_str())?),
+        Request::Help => Ok(rt.print(HELP)?),
+        Request::Version => Ok(rt.print(VERSION)?),
+        Request::Input => answer(rt, &read_input(rt)?),
+        Request::File(path) => answer(rt, &read_file(rt, path.as_str())?),
     }
 }
 

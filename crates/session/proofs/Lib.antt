@@ -1,4 +1,11 @@
-pub mod Bringing
 pub mod Chaining
+pub mod Cutting
+pub mod Gathered
+pub mod Known
+pub mod Lines
 pub mod Putting
+pub mod Quiet
 pub mod Showing
+pub mod Sixes
+pub mod Telling
+pub mod Wider

@@ -1,17 +1,17 @@
--- A row printed element by element. Assumes nothing.
+-- A row printed element by element.
 use Rattle.std.proofs.Common.{◌≡◌, ℕ, ◌+◌, ◌<◌, ◌≤◌, true, List, [], ◌++◌, length, is_ok, is_err, Some, None, Ok, Err, Result, sym, refl, ap, ◌∙◌, append_assoc, append-nil, arith}
 use Rattle.format.specs.Elements.{Row, empty, primitive, constructed, framed, written, Reads}
 use Rattle.format.proofs.Fronts.{same_front}
 use Rattle.format.proofs.Rows.{primitive_parts, constructed_parts, framed_size}
 use Rattle.format.proofs.Walks.{stop}
-use Rattle.element.specs.Cursors.{ahead, Passes, Next}
-use Rattle.element.proofs.Walks.{split, same_end}
-use Rattle.element.specs.Judged.{longest}
+use Rattle.element.specs.Cursors.{ahead, Passes, NextElement}
+use Rattle.element.proofs.Walks.{split}
+use Rattle.element.specs.Limits.{longest}
 use Rattle.element.specs.declared.walking.Cursor.{Cursor}
 use Rattle.element.specs.declared.walking.Element.{Element}
 use Rattle.element.proofs.Openings.{front_of}
 use Rattle.std.proofs.lemmas.Bool.{false≢true}
-use Rattle.text.specs.Texts.{element_text, Begins}
+use Rattle.text.specs.Texts.{element_text, StartsWith}
 use Rattle.session.specs.Rows.{row_text}
 
 -- the text of a row whose bytes begin with a primitive element, or with a constructed one
@@ -33,11 +33,11 @@ split_text d level b (constructed u q rest) h t c r e =
 
 -- some elements of a row have been printed behind the old bytes, and the rest is to be
 pub record Printed (level : ℕ) (start old items rest : List ℕ) : Type 0 where
-  pub front : Begins old items
+  pub front : StartsWith old items
   pub less : length rest ≤ length start
   pub on : (d : ℕ) (row : Row) → Reads d longest start row → (left : Row) × Reads d longest rest left × (old ++ row_text level row ≡ items ++ row_text level left)
 
-pub begins_more : (a b c : List ℕ) → Begins a b → Begins b c → Begins a c
+pub begins_more : (a b c : List ℕ) → StartsWith a b → StartsWith b c → StartsWith a c
 begins_more a b c h k = (h.0 ++ k.0, k.1 ∙ ap (λ l. l ++ k.0) h.1 ∙ append_assoc a h.0 k.0)
 
 -- what fails is not well
@@ -45,13 +45,13 @@ pub not_ok : {T E : Type 0} (r : Result T E) → is_err r ≡ true → is_ok r �
 not_ok (Ok x) err ok = false≢true err
 not_ok (Err y) err ok = false≢true ok
 
-pub begins_same : (a b : List ℕ) → b ≡ a → Begins a b
+pub begins_same : (a b : List ℕ) → b ≡ a → StartsWith a b
 begins_same a b e = ([], e ∙ sym (append-nil a))
 
 pub printed_none : (level : ℕ) (start old : List ℕ) → Printed level start old old start
 printed_none level start old = record { front = begins_same old old refl; less = omega arith; on = λ d row h. (row, h, refl) }
 
-pub printed_all : (level : ℕ) (start old items : List ℕ) (c u : Cursor) → Printed level start old items (ahead c) → Next c None u → (d : ℕ) (row : Row) → Reads d longest start row → items ≡ old ++ row_text level row
+pub printed_all : (level : ℕ) (start old items : List ℕ) (c u : Cursor) → Printed level start old items (ahead c) → NextElement c None u → (d : ℕ) (row : Row) → Reads d longest start row → items ≡ old ++ row_text level row
 unfolding row_text
 printed_all level start old items c u p e d row h =
     let (left, reads, same) = p.on d row h in
@@ -61,10 +61,6 @@ printed_all level start old items c u p e d row h =
 -- the contents and what is left are shorter
 pub shorter : {c : Cursor} {x : Element} {u : Cursor} → Passes c x u → 2 + length x.contents.now + length (ahead u) ≤ length (ahead c)
 shorter {c} {x} {u} s = omega (arith, framed_size x.tag x.contents.now (ahead u), ap length (split s))
-
--- the contents end where the element ends, and that is no further than where the row ends
-pub ends_within : {c : Cursor} {x : Element} {u : Cursor} → Passes c x u → x.contents_at + length x.contents.now ≤ c.at + length (ahead c)
-ends_within s = omega (arith, s.within, s.place, s.on, same_end s)
 
 module _ (level : ℕ) (start old was : List ℕ) (c : Cursor) (x : Element) (u : Cursor) (p : Printed level start old was (ahead c)) (s : Passes c x u) where
   -- a primitive element is printed
@@ -81,7 +77,7 @@ module _ (level : ℕ) (start old was : List ℕ) (c : Cursor) (x : Element) (u 
   }
 
   -- a constructed element is printed, and what stands within it
-  pub printed_nested : (mid new : List ℕ) → 128 ≤ x.tag → mid ≡ was ++ element_text level x.tag None → Begins mid new → ((d : ℕ) (row : Row) → Reads d longest x.contents.now row → new ≡ mid ++ row_text (level + 1) row) → Printed level start old new (ahead u)
+  pub printed_nested : (mid new : List ℕ) → 128 ≤ x.tag → mid ≡ was ++ element_text level x.tag None → StartsWith mid new → ((d : ℕ) (row : Row) → Reads d longest x.contents.now row → new ≡ mid ++ row_text (level + 1) row) → Printed level start old new (ahead u)
   printed_nested mid new high e begins inner = record {
     front = begins_more old was new p.front (begins_more was mid new (_, e) begins);
     less = omega (arith, p.less, shorter s);

@@ -1,4 +1,4 @@
--- The printed elements of a row. Assumes nothing: these are definitions.
+-- The printed elements of a row.
 use Rattle.std.specs.Prelude.{ℕ, ◌+◌, List, [], ◌++◌, Some, None}
 use Rattle.format.specs.Elements.{Row, empty, primitive, constructed}
 use Rattle.text.specs.Texts.{element_text}

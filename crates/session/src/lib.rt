@@ -1,17 +1,29 @@
-// A text of papers, marks and questions: all that it brings, and the answer to each of its lines.
+// The answer of a text of papers, marks and questions.
 #![tactic(auto)]
 
 mod answering;
+mod error;
 mod numbering;
+mod papers;
+mod promise;
+mod question;
 mod reading;
 mod rows;
+mod writing;
 
-// All that a text brings: papers, marks of seals, marks of trusted papers, and the numbers of the papers that are permits.
-// The numbers stand in one row, six for each, as the input of a pool has them.
+pub use error::AnswerError;
+use papers::Paper;
+pub use promise::{more_text_stands, pool_of_papers_stands, row_text_stands};
+use question::Question;
+pub use writing::answer_text;
+
+// All that a text brings and asks: papers, signature marks, anchor marks, and the questions in the order of their lines.
+// `numbers` has six numbers for each of the leading papers that are permits, as the input of a pool has them.
 #[derive(Drop)]
-pub struct Book {
-    papers: Vec<Vec<u8>>,
+struct Book {
+    papers: Vec<Paper>,
     seals: Vec<u8>,
     trusted: Vec<u8>,
     numbers: Vec<u32>,
+    questions: Vec<Question>,
 }

@@ -1,8 +1,10 @@
 // The numbers of the papers that are permits.
-ghost use Rattle.std.specs.Prelude.{◌≡◌, ◌++◌, map, IfOk, vec_items, OnOk};
+ghost use Rattle.std.specs.Prelude.{◌≡◌, ◌++◌, map, IfOk, IsOk, OnOk};
 ghost use Rattle.certificate.specs.Permits.{certificate_of};
-ghost use Rattle.session.specs.Books.{six, Numbers};
+ghost use Rattle.session.specs.Books.{Numbers};
+ghost use Rattle.session.specs.inner.Held.{NoFirstPermit, paper_bytes, six};
 
+use crate::Paper;
 use certificate::{Certificate, decode};
 use std::alloc::{AllocError, Global};
 
@@ -21,13 +23,14 @@ fn push_six(numbers: &mut Vec<u32>, c: Certificate) -> Result<(), AllocError>
     numbers.extend_from_slice(&six)
 }
 
-// The numbers of papers: six for each permit, and they end with the first paper that is no permit.
-pub(crate) fn numbers_of(heap: Global, papers: &[Vec<u8>]) -> Result<Vec<u32>, AllocError>
-    ensures { IfOk result (λ v. Numbers (map vec_items papers.now) v.items) }
+// The numbers of papers: six for each permit, up to the first paper that is no permit. Out of memory only if the first is a permit.
+pub(crate) fn numbers_of(heap: Global, papers: &[Paper]) -> Result<Vec<u32>, AllocError>
+    ensures quiet { NoFirstPermit (map paper_bytes papers.now) → IsOk result }
+    ensures numbers { IfOk result (λ v. Numbers (map paper_bytes papers.now) v.items) }
 {
     let mut numbers = Vec::new(heap);
     for paper in papers {
-        let Some(certificate) = decode(paper) else {
+        let Some(certificate) = decode(paper.bytes()) else {
             return Ok(numbers);
         };
         push_six(&mut numbers, certificate)?;

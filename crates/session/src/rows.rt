@@ -1,9 +1,9 @@
 // The elements of a row, printed.
 ghost use Rattle.std.specs.Prelude.{◌≡◌, ℕ, ◌+◌, ◌^◌, ◌<◌, ◌++◌, length, OnOk};
 ghost use Rattle.format.specs.Elements.{Row, Reads};
-ghost use Rattle.element.specs.Cursors.{PlacesFit, ahead};
-ghost use Rattle.element.specs.Judged.{longest};
-ghost use Rattle.text.specs.Texts.{Begins};
+ghost use Rattle.element.specs.Cursors.{ahead};
+ghost use Rattle.element.specs.Limits.{longest};
+ghost use Rattle.text.specs.Texts.{StartsWith};
 ghost use Rattle.session.specs.Rows.{row_text};
 
 use element::Cursor;
@@ -16,9 +16,8 @@ pub(crate) fn append_row(
     level: usize,
     cursor: Cursor<'_>,
 ) -> Result<(), AllocError>
-    requires places { PlacesFit cursor }
-    requires levels { level + length (ahead cursor) < 2 ^ 64 }
-    ensures front { Begins out.old.items out.new.items }
+    requires { level + length (ahead cursor) < 2 ^ 64 }
+    ensures front { StartsWith out.old.items out.new.items }
     ensures shown { OnOk result ((depth : ℕ) (row : Row) → Reads depth longest (ahead cursor.entry) row → out.new.items ≡ out.old.items ++ row_text level row) }
 {
     for element in cursor {

@@ -1,21 +1,49 @@
 // Tests of the crate `session`.
 #[cfg(test)]
 mod tests {
-    use session::Book;
-    use std::alloc::{AllocError, Global};
+    use session::{AnswerError, answer_text};
+    use std::alloc::Global;
+    use std::io::{self, ErrorKind, Write};
     use std::test::Fail;
-    use text::Lines;
 
     // More papers than are taken.
     const TOO_MANY: usize = 201;
 
-    // The answers to all lines of a text.
-    fn answers(heap: Global, text: &[u8]) -> Result<Vec<u8>, AllocError> {
-        let book = Book::read(heap, text)?;
-        let mut out = Vec::new(heap);
-        for (number, line) in Lines::new(text).enumerate() {
-            book.answer(heap, number as u64, line, &mut out)?;
+    // A writer that takes one byte a write, is interrupted before each, and fails when `room` bytes are taken.
+    #[derive(Drop)]
+    struct Narrow {
+        taken: Vec<u8>,
+        room: usize,
+        interrupted: bool,
+    }
+
+    impl Write for Narrow {
+        fn write(&mut self, bytes: &[u8]) -> io::Result<usize> {
+            self.interrupted = !self.interrupted;
+            if self.interrupted {
+                return Err(io::Error::from(ErrorKind::Interrupted));
+            }
+            if self.taken.len() >= self.room {
+                return Err(io::Error::from(ErrorKind::StorageFull));
+            }
+            match bytes {
+                [] => Ok(0),
+                [first, ..] => {
+                    self.taken.push(*first)?;
+                    Ok(1)
+                }
+            }
         }
+
+        fn flush(&mut self) -> io::Result<()> {
+            Ok(())
+        }
+    }
+
+    // The answer of a text.
+    fn answers(heap: Global, text: &[u8]) -> Result<Vec<u8>, AnswerError> {
+        let mut out = Vec::new(heap);
+        answer_text(heap, text, &mut out)?;
         Ok(out)
     }
 
@@ -96,6 +124,29 @@ mod tests {
         text.extend_from_slice(b"chain 0 day 1\npiece 200 0\npiece 201 0\n")?;
         let out = answers(rt.alloc(), text.as_slice())?;
         assert!(rt; out.as_slice() == b"refused 1 at 200\nnone\nrefused 3 at 201\n".as_slice());
+        Ok(())
+    }
+
+    #[test]
+    fn a_writer_that_fails(rt: HostRuntime) -> Result<(), Fail> {
+        let heap = rt.alloc();
+        let text = b"paper 010141\nseals 2\nchain 0 day 1\npiece 0 0\npiece 1 0\nnonsense\n";
+        let whole = answers(heap, text)?;
+        assert!(rt;
+            whole.as_slice()
+                == b"01 41\nrefused 1 at 0\n01 01 41\nrefused 3 at 1\nrefused 5 at 5\n".as_slice()
+        );
+        for room in 0..=whole.len() {
+            let mut out = Narrow {
+                taken: Vec::new(heap),
+                room,
+                interrupted: false,
+            };
+            let failed = answer_text(heap, text, &mut out).is_err();
+            assert!(rt; failed == (room < whole.len()));
+            assert!(rt; whole.as_slice().starts_with(out.taken.as_slice()));
+            assert!(rt; out.taken.len() == room);
+        }
         Ok(())
     }
 }

@@ -2,7 +2,7 @@
 #[cfg(test)]
 mod tests {
     use element::{
-        Cursor, Ill, WriteError, append_constructed, append_primitive, judge, locate, piece,
+        Cursor, Verdict, WriteError, append_constructed, append_primitive, judge, locate, piece,
     };
     use std::alloc::{AllocError, Global};
     use std::test::Fail;
@@ -19,7 +19,7 @@ mod tests {
         Ok(bytes)
     }
 
-    // Constructed elements within one another, so many deep, and a primitive within the innermost.
+    // Constructed elements within one another, `depth` deep, and a primitive within the innermost.
     fn nested(heap: Global, depth: usize) -> Result<Vec<u8>, Fail> {
         let mut bytes = vec![in heap; 1, 0]?;
         for _ in 0..depth {
@@ -55,7 +55,7 @@ mod tests {
             (&[5, 128], Some(1)),
         ];
         for (bytes, ill) in table {
-            let verdict = ill.map_or(Ok(()), |at| Err(Ill { at }));
+            let verdict = ill.map_or(Verdict::Well, |at| Verdict::Ill { at });
             assert_eq!(rt; judge(bytes), verdict);
         }
     }
@@ -81,7 +81,7 @@ mod tests {
         ];
         for (front, contents, well) in table {
             let bytes = element(heap, front, contents)?;
-            assert_eq!(rt; judge(bytes.as_slice()).is_ok(), well);
+            assert_eq!(rt; judge(bytes.as_slice()) == Verdict::Well, well);
         }
         Ok(())
     }
@@ -89,9 +89,9 @@ mod tests {
     #[test]
     fn depths(rt: HostRuntime) -> Result<(), Fail> {
         let heap = rt.alloc();
-        assert!(rt; judge(nested(heap, 0)?.as_slice()).is_ok());
-        assert!(rt; judge(nested(heap, 8)?.as_slice()).is_ok());
-        assert!(rt; judge(nested(heap, 9)?.as_slice()).is_err());
+        assert!(rt; judge(nested(heap, 0)?.as_slice()) == Verdict::Well);
+        assert!(rt; judge(nested(heap, 8)?.as_slice()) == Verdict::Well);
+        assert!(rt; judge(nested(heap, 9)?.as_slice()) != Verdict::Well);
         Ok(())
     }
 
@@ -122,9 +122,9 @@ mod tests {
         let elements = Cursor::new(&ROW).map(|element| (
             element.tag,
             element.at,
-            element.row().map(|row| row.at),
+            element.row().map(|row| row.is_empty()),
         ));
-        assert!(rt; elements.eq([(128, 0, Some(2)), (5, 7, None)]));
+        assert!(rt; elements.eq([(128, 0, Some(false)), (5, 7, None)]));
     }
 
     #[test]

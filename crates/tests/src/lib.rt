@@ -4,6 +4,7 @@
 mod answers;
 mod chains;
 mod elements;
+mod index;
 mod lines;
 mod permits;
 mod places;

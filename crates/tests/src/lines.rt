@@ -5,7 +5,7 @@ mod tests {
     use std::test::Fail;
     use text::{
         Command, LineError, Lines, append_bytes, append_chain, append_element, append_ill,
-        append_none, append_refusal, read_line,
+        append_none, append_refusal, append_unreadable, read_line,
     };
 
     // A command in words.
@@ -122,6 +122,7 @@ mod tests {
         append_chain(&mut out, &[65535])?;
         append_none(&mut out)?;
         append_refusal(&mut out, 3, 7)?;
+        append_unreadable(&mut out, 12)?;
         append_ill(&mut out, 0)?;
         append_ill(&mut out, 18446744073709551615)?;
         append_bytes(&mut out, &[2, 0, 255])?;
@@ -130,7 +131,7 @@ mod tests {
         append_element(&mut out, 2, 2, Some(&[]))?;
         assert_eq!(rt;
             out.as_slice(),
-            b"0 2 3\n65535\nnone\nrefused 3 at 7\nill at 0\nill at 18446744073709551615\n02 00 ff\n80\n  01 41 ab\n    02\n".as_slice()
+            b"0 2 3\n65535\nnone\nrefused 3 at 7\nrefused 5 at 12\nill at 0\nill at 18446744073709551615\n02 00 ff\n80\n  01 41 ab\n    02\n".as_slice()
         );
         Ok(())
     }

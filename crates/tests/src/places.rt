@@ -1,19 +1,19 @@
-// Tests of the crate `progress`.
+// Places of malformed bytes, tried out: as `judge` finds them, and by stepping over each byte.
 #[cfg(test)]
 mod tests {
-    use element::{Progress, Status, ill_place};
+    use element::{Progress, Status, Verdict, judge};
 
-    // The place that stepping over each byte finds, as `ill_place` finds it.
-    fn stepped(bytes: &[u8]) -> Option<usize> {
+    // The verdict by stepping over each byte.
+    fn stepped(bytes: &[u8]) -> Verdict {
         let mut reader = Progress::new();
         for (at, byte) in bytes.iter().enumerate() {
             if let Status::Dead = reader.step(*byte) {
-                return Some(at);
+                return Verdict::Ill { at };
             }
         }
         match reader.status() {
-            Status::Ends => None,
-            _ => Some(bytes.len()),
+            Status::Ends => Verdict::Well,
+            _ => Verdict::Ill { at: bytes.len() },
         }
     }
 
@@ -53,9 +53,10 @@ mod tests {
                 Some(16),
             ),
         ];
-        for (bytes, place) in table.iter() {
-            assert_eq!(rt; ill_place(bytes), *place);
-            assert_eq!(rt; stepped(bytes), *place);
+        for (bytes, place) in table {
+            let verdict = place.map_or(Verdict::Well, |at| Verdict::Ill { at });
+            assert_eq!(rt; judge(bytes), verdict);
+            assert_eq!(rt; stepped(bytes), verdict);
         }
     }
 }

@@ -1,6 +1,10 @@
-use Rattle.session.specs.Books.{held}
-use Rattle.session.proofs.Bringing.{Noted}
+use Rattle.std.specs.Iterator.Adapters.{enumerate_source, enumerate_count}
+use Rattle.text.specs.Tokens.{lines}
+use Rattle.session.specs.inner.Held.{AllIndexed, held}
+use Rattle.session.specs.inner.Questions.{kept}
+use Rattle.session.proofs.Gathered.{Gathered}
+use Rattle.session.proofs.Quiet.{Quiet}
 use Rattle.session.proofs.Book.read.Given as goal
 
-abbrev pub invariant-loop-line : goal.invariant-loop-line
-invariant-loop-line l = Noted l.text (held l.book) l.line-iterator.rest.now
+abbrev pub invariant-loop-number : goal.invariant-loop-number
+invariant-loop-number l = (Quiet (lines l.text) → Quiet (lines (enumerate_source l.number-iterator).rest.now)) × AllIndexed l.book × Gathered l.text (held l.book) (kept l.book) (enumerate_count l.number-iterator) (lines (enumerate_source l.number-iterator).rest.now)

@@ -1,24 +1,31 @@
-use Rattle.std.proofs.Common.{◌+◌, ◌∷◌, map, drop, vec_items, sym, ap, ◌∙◌, subst, arith}
-use Rattle.std.proofs.lemmas.List.{drop_more, drop_all}
-use Rattle.session.proofs.Bringing.{Numbered, numbered_more, numbered_end, numbered_all}
+use Rattle.std.proofs.Common.{◌≡◌, [], map, sym, ap, ◌∙◌, subst, arith}
+use Rattle.std.proofs.lemmas.List.{get_or-map, length-map}
+use Rattle.certificate.specs.Permits.{certificate_of}
+use Rattle.session.specs.Books.{Permit, paper_at}
+use Rattle.session.specs.inner.Held.{paper_bytes}
+use Rattle.session.proofs.Sixes.{counted_none, counted_more, counted_end}
 use Rattle.session.proofs.numbering.numbers_of.Goals as goal
-use Rattle.session.proofs.numbering.numbers_of.Goals.{After-deref}
+use Rattle.session.proofs.numbering.numbers_of.Goals.{After-bytes}
 
--- the paper whose turn it is stands in front of those that are left
-abbrev Turn : After-deref → Type 0
-Turn c = Numbered (map vec_items c.args.papers.now) (vec_items c.loop-paper.numbers) (c.deref.result.now ∷ map vec_items (drop (c.loop-paper.paper-index + 1) c.args.papers.now))
+-- the bytes that are decoded are those of the paper whose turn it is
+turn : (c : After-bytes) → c.bytes.result.now ≡ paper_at (map paper_bytes c.args.papers.now) c.loop-paper.paper-index
+turn c = c.bytes.ensures ∙ ap paper_bytes c.paper-item.is ∙ sym (get_or-map paper_bytes c.args.papers.now c.loop-paper.paper-index c.paper-item.result [] (omega arith))
 
-turn : (c : After-deref) → Turn c
-turn c =
-    let split = drop_more c.args.papers.now c.loop-paper.paper-index c.paper-item.result (omega arith) in
-    let first = ap vec_items (sym c.paper-item.is) ∙ sym c.deref.ensures.value in
-    subst (Numbered (map vec_items c.args.papers.now) (vec_items c.loop-paper.numbers)) (ap (map vec_items) split ∙ ap (λ b. b ∷ map vec_items (drop (c.loop-paper.paper-index + 1) c.args.papers.now)) first) c.loop-paper.invariant
-
-pub returns-in_default : goal.returns-in_default
-returns-in_default c = numbered_end _ _ _ _ (turn (goal.at.returns-in_default c).After-deref) (λ x p. c.in_default.ensures x p.range p.is)
+pub loop-paper-init : goal.loop-paper-init
+loop-paper-init c = counted_none _ _ c.new-numbers.ensures.items
 
 pub loop-paper-preserved : goal.loop-paper-preserved
-loop-paper-preserved c = numbered_more _ _ _ _ _ _ (turn (goal.at.loop-paper-preserved c).After-deref) (record { range = c.in-Some.ensures.0; is = c.in-Some.ensures.1 }) c.in_ok-push_six.ensures
+loop-paper-preserved c =
+    counted_more _ _ _ _ _ c.loop-paper.invariant
+    (subst (λ b. Permit b (certificate_of c.in-Some.certificate)) (turn (goal.at.loop-paper-preserved c).After-bytes) (record { range = c.in-Some.ensures.0; is = c.in-Some.ensures.1 }))
+    c.in_ok-push_six.ensures
 
-pub returns : goal.returns
-returns c = numbered_all _ _ _ c.loop-paper.invariant (ap (map vec_items) (drop_all c.loop-paper.paper-index c.args.papers.now (omega arith)))
+pub returns-in_default-clause-numbers : goal.returns-in_default-clause-numbers
+returns-in_default-clause-numbers c =
+    counted_end _ _ _ c.loop-paper.invariant (omega (arith, length-map c.args.papers.now paper_bytes))
+    (λ less x p. c.in_default.ensures x p.range (p.is ∙ sym (turn (goal.at.returns-in_default-clause-numbers c).After-bytes)))
+
+pub returns-clause-numbers : goal.returns-clause-numbers
+returns-clause-numbers c =
+    counted_end _ _ _ c.loop-paper.invariant (omega (arith, length-map c.args.papers.now paper_bytes))
+    (λ less. absurd (omega (arith, length-map c.args.papers.now paper_bytes)))

@@ -1,6 +1,7 @@
-use Rattle.std.proofs.Common.{map, drop, vec_items}
-use Rattle.session.proofs.Bringing.{Numbered}
+use Rattle.std.proofs.Common.{map, vec_items}
+use Rattle.session.specs.inner.Held.{paper_bytes}
+use Rattle.session.proofs.Sixes.{Counted}
 use Rattle.session.proofs.numbering.numbers_of.Given as goal
 
 abbrev pub invariant-loop-paper : goal.invariant-loop-paper
-invariant-loop-paper l = Numbered (map vec_items l.papers) (vec_items l.numbers) (map vec_items (drop l.paper-index l.papers))
+invariant-loop-paper l = Counted (map paper_bytes l.papers) (vec_items l.numbers) l.paper-index

@@ -1,8 +1,8 @@
 use Rattle.std.proofs.Common.{length, sym, ap, subst, arith}
 use Rattle.format.specs.Elements.{Reads}
 use Rattle.element.specs.Cursors.{ahead}
-use Rattle.element.specs.Judged.{longest}
-use Rattle.session.proofs.Showing.{printed_all, printed_plain, printed_nested, shorter, ends_within}
+use Rattle.element.specs.Limits.{longest}
+use Rattle.session.proofs.Showing.{printed_all, printed_plain, printed_nested, shorter}
 use Rattle.session.proofs.rows.+append_row.Goals as goal
 
 pub loop-element-preserved-in-Continue-1 : goal.loop-element-preserved-in-Continue-1
@@ -12,13 +12,10 @@ loop-element-preserved-in-Continue-1 t c =
 pub append_row-requires : goal.append_row-requires
 append_row-requires t c =
     let i = c.loop-element.invariant in
-    let s = c.in-Some.ensures.steps in
-    let l = shorter s in
-    let near = ends_within s in
+    let l = shorter c.in-Some.ensures.steps in
     let start = ap (λ u. length (ahead u)) c.into_iter-element-iterator.ensures.into_iter_gives in
-    let (high, rest, place) = c.in-Some-row.ensures in
-    let inner = ap length rest in
-    (omega (arith, i.2.less), (omega (arith, i.0, place), omega (arith, i.2.less)))
+    let inner = ap length c.in-Some-row.ensures.1 in
+    (omega (arith, i.2.less), omega (arith, i.2.less))
 
 pub loop-element-preserved : goal.loop-element-preserved
 loop-element-preserved t c =

@@ -1,0 +1,33 @@
+// Why a text is not answered to its end.
+ghost use Rattle.std.specs.Prelude.{◌≡◌};
+ghost use Rattle.session.specs.declared.error.AnswerError.TheVariants.{Memory, Write};
+
+use std::alloc::AllocError;
+use std::io;
+use thiserror::Error;
+
+// Out of memory, or the error of the writer.
+#[derive(Debug, Drop, Error)]
+pub enum AnswerError {
+    #[error("out of memory")]
+    Memory(AllocError),
+    #[error("{0}")]
+    Write(io::Error),
+}
+
+// By hand, since a derived `From` has no contract.
+impl From<AllocError> for AnswerError {
+    ghost from_gives = { λ error result. result ≡ Memory error };
+
+    fn from(error: AllocError) -> AnswerError {
+        AnswerError::Memory(error)
+    }
+}
+
+impl From<io::Error> for AnswerError {
+    ghost from_gives = { λ error result. result ≡ Write error };
+
+    fn from(error: io::Error) -> AnswerError {
+        AnswerError::Write(error)
+    }
+}
