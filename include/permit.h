@@ -2,8 +2,10 @@
  *
  * Each function answers from its arguments alone. None allocates, keeps anything from call to call, or writes
  * anywhere but into the output buffer of `chain`; so they may be called from several threads at once, as long as
- * the output buffers are apart. None calls itself: the stack that a call takes does not depend on what it is asked.
- * Pointers are never null, also where a length is 0. Lengths count elements of the type pointed to.
+ * the output buffers are apart. The stack that a call takes is bounded: the reader behind `judge` and `piece`
+ * calls itself once for each level of constructed elements, eight at most.
+ * Pointers must not be null, even where a length is 0, and the output buffer must not overlap anything else that is
+ * passed. Lengths count items of the type pointed to.
  */
 #ifndef PERMIT_H
 #define PERMIT_H
@@ -33,9 +35,10 @@ uint64_t judge(const uint8_t *bytes, size_t len);
 
 /* The element to which the path leads, tag and length included, as a part of the bytes. A length of 0: the bytes are
  * malformed, the path has no number, or it leads to nothing. */
-struct permit_span piece(const uint8_t *bytes, size_t len, const uint64_t *path, size_t path_len);
+struct permit_span piece(const uint8_t *bytes, size_t len, const uint64_t *path, size_t steps);
 
-/* The shortest chain from the certificate with the number `first` up to a trust anchor on a day, among n certificates.
+/* The shortest chain from the certificate with the number `first` up to a trust anchor on a day, among n
+ * certificates, 1 to 200.
  * Six numbers for each certificate: subject, issuer, first day, last day, 1 if it may issue else 0, path length.
  * A mark, 0 or 1, for each two certificates: that the signature of a under b is valid stands at a n + b. A mark for
  * each certificate: whether it is a trust anchor. The output buffer has a number for each certificate.

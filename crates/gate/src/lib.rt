@@ -1,61 +1,61 @@
-// The library for a gate: what its C program calls.
+// The library for a gate: what its C program calls (include/permit.h). None of the functions allocates or keeps anything from call to call.
 #![tactic(auto)]
 
-ghost use Rattle.std.specs.Prelude.{◌≡◌, ℕ, Option, Result};
-ghost use Rattle.element.specs.declared.paths.Span.{Span as Place};
-ghost use Rattle.chain.specs.declared.input.Rejection.{Rejection as Why};
-ghost use Rattle.element.specs.declared.judging.Ill.{Ill as IllAt};
-ghost use Rattle.element.specs.Judged.{Judged};
-ghost use Rattle.element.specs.Located.{Located};
-ghost use Rattle.shortest.specs.Answers.{Answers};
-ghost use Rattle.gate.specs.Numbers.{verdict_number, span_part, answer_numbers};
+ghost use Rattle.chain.specs.Inputs.{input as pool_input};
+ghost use Rattle.gate.specs.Numbers.{JudgeCall, PieceCall, ChainCall};
+ghost use Rattle.gate.specs.Promise.{Gate};
 
 use chain::PoolInput;
-use element::{Ill, locate};
+use element::{Verdict, locate};
 use shortest::find_chain;
 
-// A part of the bytes, in numbers of C: where it begins, and how many bytes it has. C has no option: none is a part of none.
+// A part of the bytes, as C reads it. C has no option: a part of 0 bytes stands for no element.
 #[repr(C)]
 #[derive(Clone, Copy)]
-pub struct Part {
+pub struct SpanNumbers {
+    // The place of its first byte, counted from 0.
     pub at: u64,
+    // How many bytes it has.
     pub len: u64,
 }
 
-// What a question about a chain is answered: 0 or the number of the rejection, and how many certificates the chain has, as C reads it.
+// What `chain` answers, as C reads it.
 #[repr(C)]
 #[derive(Clone, Copy)]
-pub struct ChainAnswer {
+pub struct ChainNumbers {
+    // 0, or the number of the rejection: the table is in docs/FORMAT.md.
     pub rejection: u64,
+    // How many certificates the chain has; 0 if there is no chain or the input is rejected.
     pub len: u64,
 }
 
-// Whether the bytes are a row of elements, as a number of C: 0 if they are, k + 1 if they are ill at k.
+// Whether the bytes are a row of elements: 0 if they are, k + 1 if they are ill at k.
 #[unsafe(no_mangle)]
 pub extern "C" fn judge(bytes: &[u8]) -> u64
-    ensures { (v : Result Unit IllAt) × Judged bytes.now v × (result ≡ verdict_number v) }
+    ensures { JudgeCall bytes.now result }
 {
     match element::judge(bytes) {
-        Ok(()) => 0,
-        Err(Ill { at }) => at as u64 + 1,
+        Verdict::Well => 0,
+        Verdict::Ill { at } => at as u64 + 1,
     }
 }
 
-// The element to which a path leads, as a part of the bytes, or a part of none.
+// The element that a path leads to, tag and length included; a part of 0 bytes if the bytes are malformed or the path leads to nothing.
 #[unsafe(no_mangle)]
-pub extern "C" fn piece(bytes: &[u8], path: &[u64]) -> Part
-    ensures { (o : Option Place) × Located bytes.now path.now o × (result ≡ span_part o) }
+pub extern "C" fn piece(bytes: &[u8], path: &[u64]) -> SpanNumbers
+    ensures { PieceCall bytes.now path.now result }
 {
     match locate(bytes, path) {
-        Some(span) => Part {
+        Some(span) => SpanNumbers {
             at: span.at as u64,
             len: span.len as u64,
         },
-        None => Part { at: 0, len: 0 },
+        None => SpanNumbers { at: 0, len: 0 },
     }
 }
 
-// The shortest chain up to a trust anchor.
+// The shortest chain from certificate `first` up to a trust anchor on a day, among n certificates. It is written to the front of the output buffer;
+// where no chain is answered the buffer is unchanged.
 #[unsafe(no_mangle)]
 pub extern "C" fn chain<'a>(
     n: u64,
@@ -65,8 +65,8 @@ pub extern "C" fn chain<'a>(
     day: u64,
     first: u64,
     out: &mut [u16],
-) -> ChainAnswer
-    ensures { (a : Result (Option ℕ) Why) × Answers n certificates.now signatures.now anchors.now day first out.old out.new a × (result ≡ answer_numbers a) }
+) -> ChainNumbers
+    ensures { ChainCall (pool_input n certificates.now signatures.now anchors.now) day first out.old out.new result }
 {
     let input = PoolInput {
         count: n,
@@ -75,17 +75,24 @@ pub extern "C" fn chain<'a>(
         anchors,
     };
     match find_chain(input, day, first, out) {
-        Ok(Some(len)) => ChainAnswer {
+        Ok(Some(len)) => ChainNumbers {
             rejection: 0,
             len: len as u64,
         },
-        Ok(None) => ChainAnswer {
+        Ok(None) => ChainNumbers {
             rejection: 0,
             len: 0,
         },
-        Err(why) => ChainAnswer {
+        Err(why) => ChainNumbers {
             rejection: u64::from(why.number()),
             len: 0,
         },
     }
+}
+
+// What is promised of the three calls, in the numbers that C sees.
+pub fn gate_stands() -> u8
+    ensures { Gate }
+{
+    0
 }

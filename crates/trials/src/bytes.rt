@@ -1,21 +1,21 @@
 // Strings of bytes: what is said of them, against a plain reader.
 use crate::draws::Draws;
 use crate::tally::Tally;
-use element::{Ill, judge, piece};
+use element::{Verdict, judge, piece};
 
-// A short string has at most so many bytes.
+// The most bytes of a short string.
 const LONGEST: usize = 12;
 
-// There is room for so many bytes, of which a string is the first: as many are drawn for each, however long it is.
+// Bytes drawn for each string, whose first ones it is: the same number for a short one.
 const ROOM: usize = 300;
 
-// A deep string has at most so many elements, each but the last around the next.
+// The most elements of a deep string, each but the last around the next.
 const DEEPEST: u8 = 12;
 
 // The bytes of which strings are made, the common ones several times.
 const LETTERS: [u8; 16] = [0, 0, 0, 0, 0, 1, 1, 2, 2, 3, 5, 127, 128, 129, 130, 200];
 
-// Constructed elements stand within one another at most so deep.
+// The greatest depth of constructed elements, written here apart from the crate that is tried.
 const LEVELS: usize = 8;
 
 // Tags from this one on are of constructed elements; lengths below it take one byte.
@@ -53,7 +53,7 @@ fn split_front(bytes: &[u8]) -> Option<Front<'_>> {
     })
 }
 
-// Whether the bytes are a row of elements, so many levels deep.
+// Whether the bytes are a row in which `levels` levels of constructed elements may open.
 fn is_row(bytes: &[u8], levels: usize) -> bool {
     let mut rest = bytes;
     // Each element takes a byte at least.
@@ -72,8 +72,8 @@ fn is_row(bytes: &[u8], levels: usize) -> bool {
 // Whether what is said of the bytes is what the plain reader says.
 fn agrees(bytes: &[u8], well: bool) -> bool {
     let judged = match judge(bytes) {
-        Ok(()) => well,
-        Err(Ill { at }) => !well && at <= bytes.len(),
+        Verdict::Well => well,
+        Verdict::Ill { at } => !well && at <= bytes.len(),
     };
     judged && piece(bytes, &[0]).is_some() == (well && !bytes.is_empty())
 }

@@ -1,4 +1,6 @@
 // Tries the crates on drawn bytes and pools, against a plain reader and against all chains.
+#![tactic(auto)]
+
 mod bytes;
 mod draws;
 mod pools;

@@ -5,7 +5,7 @@ use chain::{PoolInput, PoolView, judge_chain};
 use shortest::find_chain;
 use std::array;
 
-// A pool has at most so many certificates.
+// The most certificates of a pool.
 const MOST: usize = 5;
 
 const SIGNATURES: usize = MOST * MOST;
@@ -74,7 +74,7 @@ impl Pool {
         }
     }
 
-    // Whether a may stand next above b, below which so many certificates stand.
+    // Whether a may stand next above b, with `below` certificates between it and the first of the chain.
     fn above(&self, a: usize, b: usize, below: u32) -> bool {
         let mark = a.saturating_mul(self.count).saturating_add(b);
         let (Some(issuer), Some(subject)) = (self.certificates.get(a), self.certificates.get(b))
@@ -125,7 +125,7 @@ fn agrees(pool: &Pool, day: u32, least: Option<usize>) -> bool {
     found == least && found.is_none_or(|size| is_chain(input, day, &row, size))
 }
 
-// Whether the first numbers of a row, so many, are judged to be a chain.
+// Whether the first `size` numbers of a row are judged to be a chain.
 fn is_chain(input: PoolInput, day: u32, row: &[u64], size: usize) -> bool {
     let Ok(view) = PoolView::check(input) else {
         return false;
