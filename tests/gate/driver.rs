@@ -461,7 +461,7 @@ fn main() {
         std::process::exit(2);
     };
     println!("driver: seed {seed}");
-    // Nought would draw noughts for ever.
+    // A state of 0 would draw only zeros.
     let mut t = Trials { random: (seed ^ 0x9E37_79B9_7F4A_7C15).max(1), passed: 0, failed: 0 };
     bytes(&mut t);
     chains(&mut t);
