@@ -315,7 +315,7 @@ def main():
                 text = re.sub(r"use crate::\{([A-Z_, a-zA-Z]*)\};", r"use crate::input::{\1};", text)
             if crate == "text":
                 text = text.replace("use tokens::Words;", "use crate::tokens::Words;").replace("crate::pieces::", "crate::tokens::")
-            if file.name != "lib.rt":
+            if file.name not in ("lib.rt", "main.rt"):
                 text = text.replace("#![tactic(auto)]\n\n", "")
             text = merge_uses(text)
         file.write_text(text)
