@@ -1,13 +1,13 @@
 -- What the entries of a row are to its elements, and how paths lead to both.
-use Rattle.std.proofs.Common.{◌≡◌, ℕ, zero, suc, ◌+◌, ◌-◌, ◌<◌, ◌≤◌, List, [], ◌∷◌, ◌++◌, length, take, drop, Some, None, Option, Bor, MatchOption, ◌⊎◌, option_map, slice_get, slice_range, sym, refl, ap, ◌∙◌, subst, append_assoc, append-nil, arith, length-append, length-take, length-drop}
+use Rattle.std.proofs.Common.{◌≡◌, ℕ, zero, suc, ◌+◌, ◌-◌, ◌<◌, ◌≤◌, List, [], ◌∷◌, ◌++◌, length, take, drop, Some, None, Option, Bor, MatchOption, ◌⊎◌, option_map, slice_get, slice_range, sym, refl, ap, ◌∙◌, subst, append_assoc, append-nil, arith, length-take, length-drop}
 use Rattle.std.proofs.lemmas.List.{nil_from_length, take_rest}
 use Rattle.std.proofs.lemmas.Option.{slice_get_past}
-use Rattle.format.specs.Elements.{Row, empty, primitive, constructed, written_length, framed, written, Reads}
-use Rattle.format.specs.Paths.{nth, inside, at_path, before, header, place}
+use Rattle.format.specs.Elements.{first_constructed, Row, empty, primitive, constructed, framed, written, Reads}
+use Rattle.format.specs.Paths.{nth, inside, at_path, before, inner_start, place}
 use Rattle.format.proofs.Fronts.{same_front}
-use Rattle.format.proofs.Places.{part_of_bytes}
+use Rattle.format.proofs.Places.{part_of_bytes, some_bytes}
 use Rattle.format.proofs.Rows.{primitive_parts, constructed_parts, framed_size}
-use Rattle.format.proofs.Walks.{stop}
+use Rattle.format.proofs.Walks.{framed_length, stop}
 use Rattle.element.specs.Cursors.{ahead, offset, Passes, NextElement, RowOf}
 use Rattle.element.specs.Indexed.{span_of, entries_within, entry_at, IndexOf}
 use Rattle.element.specs.Judged.{Judged}
@@ -27,7 +27,7 @@ record IsEntry (row : Row) (at n : ℕ) (e : Entry) : Type 0 where
   some : nth row n ≡ empty → ⊥
   there : (span_of e).at ≡ at + before row n
   size : (span_of e).len ≡ length (written (nth row n))
-  within : Noted (inside (nth row n)) (out-Entry e).within.items (at + before row n + header (nth row n))
+  within : Noted (inside (nth row n)) (out-Entry e).within.items (at + before row n + inner_start (nth row n))
 
 abbrev EntryOf : (row : Row) (at n : ℕ) → Option Entry → Type 0
 EntryOf row at n (Some e) = IsEntry row at n e
@@ -40,13 +40,13 @@ behind_first row r at n size same far (Some e) h = record {
   there = omega (arith, h.there, far);
   size = h.size ∙ ap (λ x. length (written x)) (sym same);
   within =
-      let there : at + size + before r n + header (nth r n) ≡ at + before row (suc n) + header (nth r n) = omega (arith, far) in
-      subst (λ x. Noted (inside x) (out-Entry e).within.items (at + before row (suc n) + header x)) (sym same) (subst (Noted (inside (nth r n)) (out-Entry e).within.items) there h.within);
+      let there : at + size + before r n + inner_start (nth r n) ≡ at + before row (suc n) + inner_start (nth r n) = omega (arith, far) in
+      subst (λ x. Noted (inside x) (out-Entry e).within.items (at + before row (suc n) + inner_start x)) (sym same) (subst (Noted (inside (nth r n)) (out-Entry e).within.items) there h.within);
 }
 behind_first row r at n size same far None h = same ∙ h
 
 noted_nth : (row : Row) (es : List Entry) (at n : ℕ) → Noted row es at → EntryOf row at n (slice_get es n)
-unfolding Noted nth before inside header written
+unfolding Noted nth before inside inner_start written
 noted_nth empty [] at n h = refl
 noted_nth empty (e ∷ es) at n h = absurd h
 noted_nth (primitive t c r) [] at n h = absurd h
@@ -62,7 +62,7 @@ noted_nth (constructed t q r) (e ∷ es) at zero h = record {
   some = λ f. let z : ◌≡◌ {A = ℕ} 0 1 = cc in omega arith;
   there = omega (arith, h.0);
   size = h.1 ∙ ap length (sym (append-nil (framed t (written q))));
-  within = let there : at + header (constructed t q r) ≡ at + 0 + header (constructed t q empty) = omega arith in subst (Noted q (out-Entry e).within.items) there h.2;
+  within = let there : at + inner_start (constructed t q r) ≡ at + 0 + inner_start (constructed t q empty) = omega arith in subst (Noted q (out-Entry e).within.items) there h.2;
 }
 noted_nth (constructed t q r) (e ∷ es) at (suc n) h = behind_first (constructed t q r) r at n (length (framed t (written q))) refl refl (slice_get es n) (noted_nth r es (at + length (framed t (written q))) n h.3)
 
@@ -71,9 +71,9 @@ unfolding Noted
 no_elements at = tt
 
 -- the entries within are those of the row within
-noted_within : (row : Row) (at n : ℕ) (o : Option Entry) → EntryOf row at n o → Noted (inside (nth row n)) (entries_within o) (at + before row n + header (nth row n))
+noted_within : (row : Row) (at n : ℕ) (o : Option Entry) → EntryOf row at n o → Noted (inside (nth row n)) (entries_within o) (at + before row n + inner_start (nth row n))
 noted_within row at n (Some e) h = h.within
-noted_within row at n None h = let from = at + before row n + header (nth row n) in subst (λ r. Noted r [] from) (sym (inside_none h)) (no_elements from)
+noted_within row at n None h = let from = at + before row n + inner_start (nth row n) in subst (λ r. Noted r [] from) (sym (inside_none h)) (no_elements from)
 
 -- the entry of the element that a path leads to in a row that begins at a place
 record IsFound (row : Row) (at : ℕ) (path : List ℕ) (e : Entry) : Type 0 where
@@ -90,7 +90,7 @@ unfolding at_path place
 found_one row at n (Some e) h = record { some = h.some; there = h.there; size = h.size }
 found_one row at n None h = h
 
-found_deeper : (row : Row) (at n k : ℕ) (path : List ℕ) (o : Option Entry) → FoundEntry (inside (nth row n)) (at + before row n + header (nth row n)) (k ∷ path) o → FoundEntry row at (n ∷ (k ∷ path)) o
+found_deeper : (row : Row) (at n k : ℕ) (path : List ℕ) (o : Option Entry) → FoundEntry (inside (nth row n)) (at + before row n + inner_start (nth row n)) (k ∷ path) o → FoundEntry row at (n ∷ (k ∷ path)) o
 unfolding at_path place
 found_deeper row at n k path (Some e) h = record { some = h.some; there = omega (arith, h.there); size = h.size }
 found_deeper row at n k path None h = h
@@ -101,7 +101,7 @@ noted_path [] row es at h = refl
 noted_path (n ∷ []) row es at h = found_one row at n (slice_get es n) (noted_nth row es at n h)
 noted_path (n ∷ (k ∷ path)) row es at h =
     let inner = noted_within row at n (slice_get es n) (noted_nth row es at n h) in
-    found_deeper row at n k path (entry_at (entries_within (slice_get es n)) (k ∷ path)) (noted_path (k ∷ path) (inside (nth row n)) (entries_within (slice_get es n)) (at + before row n + header (nth row n)) inner)
+    found_deeper row at n k path (entry_at (entries_within (slice_get es n)) (k ∷ path)) (noted_path (k ∷ path) (inside (nth row n)) (entries_within (slice_get es n)) (at + before row n + inner_start (nth row n)) inner)
 
 -- an entry that is found says where the element stands
 located_entry : (bytes path : List ℕ) (row : Row) → Reads deepest longest bytes row → (o : Option Entry) → ((other : Row) → Reads deepest longest bytes other → FoundEntry other 0 path o) → Located bytes path (option_map span_of o)
@@ -150,20 +150,16 @@ noting_all start es c u p e d row h =
 pub record Enters (x : Element) (r : Entry-F Entry) : Type 0 where
   pub there : r.span.at ≡ x.at
   pub size : r.span.len ≡ length x.whole.now
-  pub plain : x.tag < 128 → r.within.items ≡ []
-  pub nested : 128 ≤ x.tag → (depth : ℕ) (row : Row) → Reads depth longest x.contents.now row → Noted row r.within.items x.contents_at
+  pub plain : x.tag < first_constructed → r.within.items ≡ []
+  pub nested : first_constructed ≤ x.tag → (depth : ℕ) (row : Row) → Reads depth longest x.contents.now row → Noted row r.within.items x.contents_at
 
 -- the entries within an element are those of the row that its cursor has ahead
 pub noted_inside : (x : Element) (inner : Cursor) (es : List Entry) → RowOf x (Some inner) → ((depth : ℕ) (row : Row) → Reads depth longest (ahead inner) row → Noted row es (offset inner)) → (depth : ℕ) (row : Row) → Reads depth longest x.contents.now row → Noted row es x.contents_at
 noted_inside x inner es (high, rest, at) noted d row h = subst (Noted row es) at (noted d row (subst (λ b. Reads d longest b row) (sym rest) h))
 
-framed_length : (t : ℕ) (b : List ℕ) → 1 + length (written_length (length b)) + length b ≡ length (framed t b)
-unfolding framed
-framed_length t b = omega (arith, length-append (written_length (length b)) b)
-
 -- the row that is left behind an element, whose entries complete those of the row
 noted_first : (d : ℕ) (row : Row) (c : Cursor) (x : Element) (u : Cursor) (e : Entry) → Reads d longest (ahead c) row → Passes c x u → Enters x (out-Entry e) → (left : Row) × Reads d longest (ahead u) left × ((more : List Entry) → Noted left more (offset u) → Noted row (e ∷ more) (offset c))
-unfolding written Noted header
+unfolding written Noted inner_start
 noted_first d empty c x u e h p k = absurd (omega (arith, framed_size x.tag x.contents.now (ahead u), ap length (h.writing ∙ split p)))
 noted_first d (primitive t b rest) c x u e h p k =
     let s = same_front t x.tag b x.contents.now (written rest) (ahead u) (h.writing ∙ split p) in
@@ -179,7 +175,7 @@ noted_first d (constructed t q rest) c x u e h p k =
     let w = constructed_parts d longest t q rest h.well in
     let size : length x.whole.now ≡ length (framed t (written q)) = ap length x.is ∙ sym (λ i. length (framed (s.0 i) (s.1 i))) in
     let far : offset u ≡ offset c + length (framed t (written q)) = omega (arith, p.on, size) in
-    let within : x.contents_at ≡ offset c + header (constructed t q rest) = omega (arith, x.within, p.place, size, ap length s.1, framed_length t (written q)) in (
+    let within : x.contents_at ≡ offset c + inner_start (constructed t q rest) = omega (arith, x.within, p.place, size, ap length s.1, framed_length t (written q)) in (
       rest,
       record { well = w.rest; writing = s.2 },
       λ more m. (k.there ∙ p.place, k.size ∙ size, subst (Noted q (out-Entry e).within.items) within (k.nested (omega (arith, s.0, w.high)) w.less q (record { well = w.within; writing = s.1 })), subst (Noted rest more) far m),
@@ -222,6 +218,11 @@ module _ (all row : List Entry) (path : List ℕ) (i n : ℕ) (h : entry_at all 
 pub located_by : (x : Index) (path : List ℕ) (o : Option Entry) → entry_at x.row.items path ≡ o → (bytes : List ℕ) → IndexOf bytes x → Located bytes path (option_map span_of o)
 located_by x path o e bytes h = subst (λ o. Located bytes path (option_map span_of o)) e (h.located path)
 
+-- bytes that read as no elements are none
+pub no_bytes : {bytes : List ℕ} → ((row : Row) → Reads deepest longest bytes row → row ≡ empty) → ((row : Row) × Reads deepest longest bytes row) → bytes ≡ []
+unfolding written
+no_bytes none (row, reads) = sym reads.writing ∙ ap written (none row reads)
+
 -- an index of well-formed bytes, and of malformed ones
 pub index_well : (bytes : List ℕ) (x : Index) (start : Cursor) → Judged bytes x.verdict → ((row : Row) × Reads deepest longest bytes row) → ahead start ≡ bytes → offset start ≡ 0 → ((depth : ℕ) (row : Row) → Reads depth longest (ahead start) row → Noted row x.row.items (offset start)) → IndexOf bytes x
 index_well bytes x start judged whole rest at noted = record {
@@ -232,17 +233,10 @@ index_well bytes x start judged whole rest at noted = record {
 pub index_ill : (bytes : List ℕ) (x : Index) → Judged bytes x.verdict → ((row : Row) → Reads deepest longest bytes row → ⊥) → x.row.items ≡ [] → IndexOf bytes x
 index_ill bytes x judged none is = record { judged = judged; located = λ path. subst (λ es. Located bytes path (option_map span_of (entry_at es path))) (sym is) (located_ill bytes none path) }
 
--- an element takes some bytes
-written_some : (row : Row) → (row ≡ empty → ⊥) → 0 < length (written row)
-unfolding written
-written_some empty f = absurd (f refl)
-written_some (primitive t b r) f = omega (arith, framed_size t b (written r))
-written_some (constructed t q r) f = omega (arith, framed_size t (written q) (written r))
-
 -- an element stands within the bytes
 pub span_within : (bytes path : List ℕ) (s : Span) → Located bytes path (Some s) → s.at + s.len ≤ length bytes
 span_within bytes path s (whole, leads, size) =
-    omega (arith, size, written_some (at_path leads.row path) leads.some, ap length leads.is, ap length leads.part, length-take (length whole) (drop s.at bytes), length-drop s.at bytes)
+    omega (arith, size, some_bytes (at_path leads.row path) leads.some, ap length leads.is, ap length leads.part, length-take (length whole) (drop s.at bytes), length-drop s.at bytes)
 
 -- as many bytes as it takes, from its place on, are the element
 pub piece_from : (bytes path : List ℕ) (s : Span) → Located bytes path (Some s) → (rest : List ℕ) → rest ≡ slice_range bytes s.at (length bytes) → (o : Option (Bor (List ℕ))) → MatchOption o ((s.len < 0) ⊎ (length rest < s.len)) (λ x. (0 ≤ s.len) × (s.len ≤ length rest) × (x.now ≡ slice_range rest 0 s.len) × (length x.now + 0 ≡ s.len)) → Piece bytes path (option_map (λ part. part.now) o)

@@ -10,7 +10,7 @@ use Rattle.format.proofs.Viability.{viable_none}
 use Rattle.element.specs.Limits.{deepest, longest}
 use Rattle.element.specs.Progressed.{Gone, StatusSays, Skipped, left_at, contents_left}
 use Rattle.element.specs.inner.IllPlace.{IllPlace}
-use Rattle.element.specs.inner.Machine.{State, start, at_position, unfilled, settled, stepped, run, state, status_at}
+use Rattle.element.specs.Machine.{State, start, at_position, unfilled, settled, stepped, run, state, status_at}
 use Rattle.element.specs.declared.progress.position.Position.{Position}
 use Rattle.element.specs.declared.progress.position.Position.TheVariants.{Tag, Length, OneByte, TwoBytes, LowByte, Header, Contents, Nowhere}
 use Rattle.element.specs.declared.progress.Progress.{Progress}
@@ -53,11 +53,12 @@ run_contents (x ∷ (y ∷ xs)) s n some l =
 alive_settled : (s : State) (n : ℕ) → Alive (settled (at_position s (Contents n))).position
 alive_settled s n = cond_both (eqb n 0) (unfilled s) (at_position s (Contents n)) (λ (q : State). Alive q.position) (λ e. tt) (λ e. tt)
 
-pub skipped_none : (p : Progress) (most : ℕ) → 0 ≡ min most (contents_left p) → Skipped p most 0 p
+pub skipped_none : (p : Progress) (limit : ℕ) → 0 ≡ min limit (contents_left p) → Skipped p limit 0 p
 unfolding run
-skipped_none p most e =
+skipped_none p limit e =
     record {
       far = e;
+      same = λ xs l. ap (run (state p)) (sym (nil_from_length xs l));
       gone = λ b xs h l bytes. subst (Gone p) (sym (ap (λ c. b ++ c) (nil_from_length xs l) ∙ append-nil b)) h;
       viable = λ b xs h l bytes v. subst (Viable deepest longest) (sym (ap (λ c. b ++ c) (nil_from_length xs l) ∙ append-nil b)) v;
     }
@@ -77,10 +78,11 @@ pub clamped : {E : Type 0} (n : ℕ) (r : Result ℕ E) → OkIff r (n < 2 ^ 16)
 clamped n (Ok k) h = omega (arith, h)
 clamped n (Err e) h = omega (arith, h)
 
-pub skipped_some : (p q : Progress) (most n over : ℕ) → p.position ≡ Contents n → 0 < over → over ≡ min most n → state q ≡ settled (at_position (state p) (Contents (n - over))) → Skipped p most over q
-skipped_some p q most n over at some e is =
+pub skipped_some : (p q : Progress) (limit n over : ℕ) → p.position ≡ Contents n → 0 < over → over ≡ min limit n → state q ≡ settled (at_position (state p) (Contents (n - over))) → Skipped p limit over q
+skipped_some p q limit n over at some e is =
     record {
-      far = e ∙ ap (λ k. min most (left_at k)) (sym at);
+      far = e ∙ ap (λ k. min limit (left_at k)) (sym at);
+      same = same;
       gone = λ b xs h l bytes. gone_more p q b xs h bytes (same xs l);
       viable = λ b xs h l bytes v. let g = gone_more p q b xs h bytes (same xs l) in
           viable_alive (run start (b ++ xs)) (b ++ xs) (after (b ++ xs) g.each) (subst (λ (s : State). Alive s.position) (sym is ∙ g.is) (alive_settled (state p) (n - over)));
@@ -129,8 +131,8 @@ module _ (b : List ℕ) (p q : Progress) (rest : List ℕ) (h : Reading b p rest
       }
 
   -- one byte further, and then over contents
-  pub reading_on : (st ≡ Dead → ⊥) → (n : Progress) (most over : ℕ) → most ≡ length (drop 1 rest) → Skipped q most over n → (part : List ℕ) → part ≡ drop over (drop 1 rest) → Reading b n part
-  reading_on alive n most over fits s part e =
+  pub reading_on : (st ≡ Dead → ⊥) → (n : Progress) (limit over : ℕ) → limit ≡ length (drop 1 rest) → Skipped q limit over n → (part : List ℕ) → part ≡ drop over (drop 1 rest) → Reading b n part
+  reading_on alive n limit over fits s part e =
       let xs = take over (drop 1 rest) in
       let size : length xs ≡ over = omega (arith, length-take over (drop 1 rest), s.far) in
       let behind : all_bytes (drop 1 rest) ≡ true = all_bytes_drop 1 rest h.each in

@@ -9,3 +9,4 @@ pub mod Standing
 pub mod Steps
 pub mod Turns
 pub mod Walks
+pub mod Writings

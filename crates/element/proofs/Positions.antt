@@ -1,11 +1,11 @@
 -- What completes the rows from a position on, and that one more byte leads where the definition says.
 use Rattle.std.proofs.Common.{◌≡◌, ℕ, zero, suc, ◌+◌, ◌-◌, ◌*◌, ◌<◌, ◌≤◌, true, false, cond, ◌&&◌, ◌||◌, eqb, ltb, leb, ◌⊎◌, List, [], ◌∷◌, ◌++◌, length, sym, refl, ap, ◌∙◌, subst, inl, inr, ⊎_elim, arith, length-append}
 use Rattle.std.proofs.lemmas.Bool.{ltb-true, ltb-false, leb-true, eqb-true, eqb-false, lt-ltb, and_from, and_parts, and_cases, or_cases, or_parts, cond_both, leb-false}
-use Rattle.format.specs.Elements.{written_length, all_bytes}
+use Rattle.format.specs.Elements.{first_constructed, written_length, all_bytes}
 use Rattle.format.proofs.Lengths.{short, middle, starts_long}
 use Rattle.format.proofs.Rests.{Fills, room, Inside}
 use Rattle.element.specs.Limits.{longest}
-use Rattle.element.specs.inner.Machine.{taken, after_tag, after_first, after_high, next_position}
+use Rattle.element.specs.Machine.{taken, after_tag, after_first, after_high, next_position}
 use Rattle.element.specs.declared.progress.position.Position.{Position}
 use Rattle.element.specs.declared.progress.position.Position.TheVariants.{Tag, Length, OneByte, TwoBytes, LowByte, Header, Contents, Nowhere}
 use Rattle.element.proofs.Standing.{Standing, Asks, asks}
@@ -30,12 +30,12 @@ Completes Nowhere d rows c = ⊥
 
 -- a tag that may stand where d levels may open
 abbrev pub Tagged : (d t : ℕ) → Type 0
-Tagged d t = (t < 128) ⊎ ((128 ≤ t) × (t < 256) × (0 < d))
+Tagged d t = (t < first_constructed) ⊎ ((first_constructed ≤ t) × (t < 256) × (0 < d))
 
 -- what holds at a position in a row that needs r bytes, if a reader rests there
 abbrev pub Ready : Position → (d r : ℕ) → Type 0
 Ready Tag d r = 2 ≤ r
-Ready (Length t) d r = (2 ≤ r) × ((t < 128) ⊎ ((128 ≤ t) × (t < 256) × (0 < d) × (r ≡ taken 0 + 1 → ⊥)))
+Ready (Length t) d r = (2 ≤ r) × ((t < first_constructed) ⊎ ((first_constructed ≤ t) × (t < 256) × (0 < d) × (r ≡ taken 0 + 1 → ⊥)))
 Ready (OneByte t) d r = (taken 128 ≤ r) × Tagged d t
 Ready (TwoBytes t) d r = (taken 256 ≤ r) × Tagged d t
 Ready (LowByte t h) d r = (0 < h) × (h < 256) × (taken (256 * h) ≤ r) × Tagged d t
@@ -100,11 +100,11 @@ module _ (d : ℕ) (rows : List ℕ) (x : ℕ) (h : Standing rows) (byte : x < 2
 
   leads_tag : 2 ≤ room rows → LeadsTo Tag d rows x (after_tag (room rows) d x)
   leads_tag some =
-      cond_both (ltb x 128) (Length x) (cond (eqb d 0 || eqb (room rows) (taken 0 + 1)) Nowhere (Length x)) (LeadsTo Tag d rows x)
-      (λ low. record { ready = (some, inl (ltb-true x 128 low)); to = λ c f. f; from = λ c f. f })
+      cond_both (ltb x first_constructed) (Length x) (cond (eqb d 0 || eqb (room rows) (taken 0 + 1)) Nowhere (Length x)) (LeadsTo Tag d rows x)
+      (λ low. record { ready = (some, inl (ltb-true x first_constructed low)); to = λ c f. f; from = λ c f. f })
       (λ high. cond_both (eqb d 0 || eqb (room rows) (taken 0 + 1)) Nowhere (Length x) (LeadsTo Tag d rows x)
-      (λ e. leads_nowhere Tag d rows x (λ c f. let a = asks d rows x c h (omega arith) f in let l = ltb-false x 128 high in ⊎_elim (λ z. let k = eqb-true d 0 z in omega arith) (λ z. let k = eqb-true (room rows) (taken 0 + 1) z in omega arith) (or_cases (eqb d 0) (eqb (room rows) (taken 0 + 1)) e)))
-      (λ e. let o = or_parts (eqb d 0) (eqb (room rows) (taken 0 + 1)) e in record { ready = (some, inr (ltb-false x 128 high, byte, omega (arith, eqb-false d 0 o.0), eqb-false (room rows) (taken 0 + 1) o.1)); to = λ c f. f; from = λ c f. f }))
+      (λ e. leads_nowhere Tag d rows x (λ c f. let a = asks d rows x c h (omega arith) f in let l = ltb-false x first_constructed high in ⊎_elim (λ z. let k = eqb-true d 0 z in omega arith) (λ z. let k = eqb-true (room rows) (taken 0 + 1) z in omega arith) (or_cases (eqb d 0) (eqb (room rows) (taken 0 + 1)) e)))
+      (λ e. let o = or_parts (eqb d 0) (eqb (room rows) (taken 0 + 1)) e in record { ready = (some, inr (ltb-false x first_constructed high, byte, omega (arith, eqb-false d 0 o.0), eqb-false (room rows) (taken 0 + 1) o.1)); to = λ c f. f; from = λ c f. f }))
 
   leads_first : (t : ℕ) → Ready (Length t) d (room rows) → LeadsTo (Length t) d rows x (after_first (room rows) t x)
   leads_first t ready =

@@ -6,7 +6,7 @@ use Rattle.format.proofs.Lengths.{starts_long}
 use Rattle.format.proofs.Rests.{Fills, room}
 use Rattle.format.proofs.Fillings.{Kind, filling, filling_inside}
 use Rattle.element.specs.Limits.{longest}
-use Rattle.element.specs.inner.Machine.{taken}
+use Rattle.element.specs.Machine.{taken}
 use Rattle.element.specs.declared.progress.position.Position.{Position}
 use Rattle.element.specs.declared.progress.position.Position.TheVariants.{Tag, Length, OneByte, TwoBytes, LowByte, Header, Contents, Nowhere}
 use Rattle.element.proofs.Standing.{Standing, fillable, asks, completed}

@@ -3,7 +3,7 @@ use Rattle.std.proofs.Common.{◌≡◌, ℕ, suc, ◌+◌, ◌<◌, List, [], �
 use Rattle.std.proofs.lemmas.List.{drop_more, drop_all}
 use Rattle.std.proofs.lemmas.Bool.{eq-eqb, ne_eqb}
 use Rattle.element.specs.Limits.{deepest}
-use Rattle.element.specs.inner.Machine.{full}
+use Rattle.element.specs.Machine.{full}
 
 -- an inner row, and the row around it
 pub rows_two : (l : List ℕ) (k : ℕ) → k < deepest → length l ≡ deepest + 1 → drop k l ≡ get_or l k 0 ∷ (get_or l (k + 1) 0 ∷ drop (k + 1 + 1) l)

@@ -10,7 +10,7 @@ use Rattle.format.proofs.Rests.{Fills, room}
 use Rattle.format.proofs.Viability.{one_place}
 use Rattle.element.specs.Limits.{deepest, longest}
 use Rattle.element.specs.Progressed.{StatusSays}
-use Rattle.element.specs.inner.Machine.{State, endless, start, at_position, stepped, run, status_at}
+use Rattle.element.specs.Machine.{State, endless, start, at_position, stepped, run, status_at}
 use Rattle.element.specs.declared.progress.position.Position.{Position}
 use Rattle.element.specs.declared.progress.position.Position.TheVariants.{Tag, Length, OneByte, TwoBytes, LowByte, Header, Contents, Nowhere}
 use Rattle.element.specs.declared.progress.Status.{Status}

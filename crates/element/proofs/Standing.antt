@@ -6,7 +6,7 @@ use Rattle.format.proofs.Lengths.{Says, says}
 use Rattle.format.proofs.Rests.{taken, Fills, room, deduct}
 use Rattle.format.proofs.Fillings.{Enough, Kind, heading, closed, reopened, Fillable, filling_headed}
 use Rattle.element.specs.Limits.{longest}
-use Rattle.element.specs.inner.Machine.{endless, full}
+use Rattle.element.specs.Machine.{endless, full}
 
 -- the outermost row has no end, and none of the others needs one byte
 unfoldable pub Standing : List ℕ → Type 0

@@ -1,7 +1,7 @@
 -- How a reader goes from element to element: what is behind the first one, or within it, decides.
 use Rattle.std.proofs.Common.{◌≡◌, ℕ, suc, ◌+◌, ◌<◌, ◌≤◌, Bool, true, false, Some, None, List, ◌++◌, length, drop, refl, sym, ap, ◌∙◌, subst, arith, take_at}
 use Rattle.std.proofs.lemmas.List.{nil_from_length, drop_at}
-use Rattle.format.specs.Elements.{written_length, all_bytes, Readable}
+use Rattle.format.specs.Elements.{first_constructed, written_length, all_bytes, Readable}
 use Rattle.format.proofs.Bytes.{all_bytes_take, all_bytes_drop}
 use Rattle.format.proofs.Places.{behind_header}
 use Rattle.format.proofs.Readings.{readable_none, after_primitive, after_constructed, contents_malformed, too_deep, no_front}
@@ -40,7 +40,7 @@ module _ (b : List ℕ) (o : Opening) (h : Opens b o) where
       (subst (λ l. all_bytes l ≡ true) (ap (drop header) h.is ∙ behind_header o.tag o.contents.now o.behind.now) (all_bytes_drop header b bytes))
 
   -- constructed, with one level fewer within
-  module _ (d inner : ℕ) (level : d ≡ suc inner) (high : 128 ≤ o.tag) where
+  module _ (d inner : ℕ) (level : d ≡ suc inner) (high : first_constructed ≤ o.tag) where
     step_constructed : Readable inner longest o.contents.now true → (v : Bool) → Readable d longest o.behind.now v → Readable d longest b v
     step_constructed k v m =
         subst (λ n. Readable n longest b v) (sym level)
@@ -65,10 +65,10 @@ module _ (b : List ℕ) (o : Opening) (h : Opens b o) where
     leaves_malformed k = λ _. step_malformed k
 
   -- what is behind a primitive element
-  pub leaves_primitive : (d : ℕ) → all_bytes b ≡ true → o.tag < 128 → Leaves d b (Some (record { bytes = o.behind; depth = d }))
+  pub leaves_primitive : (d : ℕ) → all_bytes b ≡ true → o.tag < first_constructed → Leaves d b (Some (record { bytes = o.behind; depth = d }))
   leaves_primitive d bytes low = (omega (arith, parts_size), record { within = omega (arith, parts_size); bytes = (parts_bytes bytes).1; same = after_primitive d longest o.tag o.contents.now o.behind.now b low (parts_bytes bytes).0 h.fits h.is })
 
-  pub leaves_too_deep : (d : ℕ) → d ≡ 0 → 128 ≤ o.tag → Leaves d b None
+  pub leaves_too_deep : (d : ℕ) → d ≡ 0 → first_constructed ≤ o.tag → Leaves d b None
   leaves_too_deep d none high = λ _. subst (λ n. Readable n longest b false) (sym none) (too_deep longest o.tag o.contents.now o.behind.now b high h.is)
 
 pub leaves_shut : (d : ℕ) (b : List ℕ) → Shut b → Leaves d b None

@@ -2,11 +2,11 @@
 use Rattle.std.proofs.Common.{◌≡◌, ℕ, zero, suc, ◌+◌, ◌-◌, ◌<◌, ◌≤◌, cond, ◌||◌, eqb, ltb, ◌⊎◌, List, [], ◌∷◌, ◌++◌, length, get_or, drop, set, sym, refl, ap, ◌∙◌, subst, subst₂, inl, inr, ⊎_elim, arith, length-drop, length-set}
 use Rattle.std.proofs.lemmas.List.{drop_more, drop-set, drop-drop, nil_from_length}
 use Rattle.std.proofs.lemmas.Bool.{ltb-true, ltb-false, eqb-true, eqb-false, or_cases, or_parts, cond_both}
-use Rattle.format.specs.Elements.{written_length, all_bytes}
+use Rattle.format.specs.Elements.{first_constructed, written_length, all_bytes}
 use Rattle.format.proofs.Lengths.{same_length}
 use Rattle.format.proofs.Rests.{Fills, room, deduct, Inside, primitive_comes, primitive_came, constructed_comes, constructed_came}
 use Rattle.element.specs.Limits.{deepest, longest}
-use Rattle.element.specs.inner.Machine.{State, taken, at_position, room_of, spent, within, opened, entered, full, unfilled, settled, next_position, stepped}
+use Rattle.element.specs.Machine.{State, taken, at_position, room_of, spent, within, opened, entered, full, unfilled, settled, next_position, stepped}
 use Rattle.element.specs.declared.progress.position.Position.{Position}
 use Rattle.element.specs.declared.progress.position.Position.TheVariants.{Tag, Length, OneByte, TwoBytes, LowByte, Header, Contents, Nowhere}
 use Rattle.element.proofs.Standing.{Standing, asks, standing_behind, standing_within, closing}
@@ -72,7 +72,7 @@ module _ (s : State) (t n : ℕ) (bound : s.levels ≤ deepest) (long : length s
   opened_nowhere f = record { sound = record { bound = bound; size = long; standing = h; known = tt }; same = record { to = f; from = λ c x. absurd x } }
 
   -- what the header asks is of its own length
-  asked : (c : List ℕ) → Complete From c → (taken n ≤ room (rows_of s)) × (taken n + 1 ≡ room (rows_of s) → ⊥) × ((t < 128) ⊎ ((n ≡ 1 → ⊥) × (0 < s.levels)))
+  asked : (c : List ℕ) → Complete From c → (taken n ≤ room (rows_of s)) × (taken n + 1 ≡ room (rows_of s) → ⊥) × ((t < first_constructed) ⊎ ((n ≡ 1 → ⊥) × (0 < s.levels)))
   asked c f =
       let a = asks s.levels (rows_of s) t (written_length n ++ c) h (omega (arith, known.0)) f in
       let e = (same_length n a.n c a.tail a.is).0 in
@@ -90,7 +90,7 @@ module _ (s : State) (t n : ℕ) (bound : s.levels ≤ deepest) (long : length s
     stands_less : Standing (deduct (taken n) (rows_of s))
     stands_less = standing_behind (taken n) (rows_of s) h fits left
 
-    opened_primitive : t < 128 → Onward Begun From (at_position Less (Contents n))
+    opened_primitive : t < first_constructed → Onward Begun From (at_position Less (Contents n))
     opened_primitive low =
         let e : rows_of Less ≡ deduct (taken n) (rows_of s) = ap (λ k. drop k Less.rooms) less.levels ∙ rows_less in
         record {
@@ -101,7 +101,7 @@ module _ (s : State) (t n : ℕ) (bound : s.levels ≤ deepest) (long : length s
           };
         }
 
-    opened_constructed : 128 ≤ t → t < 256 → (n ≡ 1 → ⊥) → 0 < s.levels → Onward Begun From (within Less n)
+    opened_constructed : first_constructed ≤ t → t < 256 → (n ≡ 1 → ⊥) → 0 < s.levels → Onward Begun From (within Less n)
     opened_constructed high byte o some =
         let d = s.levels - 1 in
         let one : suc d ≡ s.levels = omega arith in
@@ -119,15 +119,15 @@ module _ (s : State) (t n : ℕ) (bound : s.levels ≤ deepest) (long : length s
 
   opens : Onward Begun From (opened From t n)
   opens =
-      cond_both (ltb (room_of s) (taken n) || eqb (room_of s) (taken n + 1)) (at_position s Nowhere) (cond (ltb t 128) (at_position Less (Contents n)) (cond (eqb n 1 || eqb s.levels 0) (at_position s Nowhere) (within Less n))) (Onward Begun From)
+      cond_both (ltb (room_of s) (taken n) || eqb (room_of s) (taken n + 1)) (at_position s Nowhere) (cond (ltb t first_constructed) (at_position Less (Contents n)) (cond (eqb n 1 || eqb s.levels 0) (at_position s Nowhere) (within Less n))) (Onward Begun From)
       (λ e. opened_nowhere (λ c f. let a = asked c f in
       ⊎_elim (λ z. omega (arith, ltb-true (room_of s) (taken n) z, same_room, a.0)) (λ z. a.1 (sym (same_room ∙ eqb-true (room_of s) (taken n + 1) z))) (or_cases (ltb (room_of s) (taken n)) (eqb (room_of s) (taken n + 1)) e)))
       (λ e. let o = or_parts (ltb (room_of s) (taken n)) (eqb (room_of s) (taken n + 1)) e in
       let fits : taken n ≤ room (rows_of s) = omega (arith, ltb-false (room_of s) (taken n) o.0, same_room) in
       let left : taken n + 1 ≡ room (rows_of s) → ⊥ = λ z. eqb-false (room_of s) (taken n + 1) o.1 (sym (z ∙ same_room)) in
-      cond_both (ltb t 128) (at_position Less (Contents n)) (cond (eqb n 1 || eqb s.levels 0) (at_position s Nowhere) (within Less n)) (Onward Begun From)
-      (λ low. opened_primitive fits left (ltb-true t 128 low))
-      (λ high. let l = ltb-false t 128 high in cond_both (eqb n 1 || eqb s.levels 0) (at_position s Nowhere) (within Less n) (Onward Begun From)
+      cond_both (ltb t first_constructed) (at_position Less (Contents n)) (cond (eqb n 1 || eqb s.levels 0) (at_position s Nowhere) (within Less n)) (Onward Begun From)
+      (λ low. opened_primitive fits left (ltb-true t first_constructed low))
+      (λ high. let l = ltb-false t first_constructed high in cond_both (eqb n 1 || eqb s.levels 0) (at_position s Nowhere) (within Less n) (Onward Begun From)
       (λ z. opened_nowhere (λ c f. let a = (asked c f).2 in let u = or_cases (eqb n 1) (eqb s.levels 0) z in ⊎_elim (λ i. ⊎_elim (λ low. omega arith) (λ k. k.0 (eqb-true n 1 i)) a) (λ i. let w = eqb-true s.levels 0 i in omega arith) u))
       (λ z. let u = or_parts (eqb n 1) (eqb s.levels 0) z in let k = known.2 in opened_constructed fits left l (omega arith) (eqb-false n 1 u.0) (omega (arith, eqb-false s.levels 0 u.1)))))
     where

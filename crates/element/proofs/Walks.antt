@@ -1,14 +1,14 @@
 -- What a cursor finds in the row that its bytes read as.
-use Rattle.std.proofs.Common.{◌≡◌, ℕ, suc, ◌+◌, ◌-◌, ◌<◌, ◌≤◌, List, [], ◌∷◌, ◌++◌, length, get_or, take, drop, Some, None, Option, sym, refl, ap, ◌∙◌, subst, append_assoc, append-nil, zero-add, arith, length-append, length-drop, MatchOption}
+use Rattle.std.proofs.Common.{◌≡◌, ℕ, zero, suc, ◌+◌, ◌-◌, ◌<◌, ◌≤◌, List, [], ◌∷◌, ◌++◌, length, get_or, take, drop, Some, None, Option, sym, refl, ap, ◌∙◌, subst, append_assoc, append-nil, zero-add, arith, length-append, length-drop, MatchOption, slice_get}
 use Rattle.std.specs.Iterator.{Yields, YieldsThen}
 use Rattle.std.specs.List.{flat_map}
 use Rattle.std.proofs.lemmas.List.{nil_from_length, drop_more, get_or_append_left, get_or_at}
-use Rattle.format.specs.Elements.{Row, empty, framed, written, Reads}
-use Rattle.format.specs.Paths.{nth, inside, at_path, before, header, place}
+use Rattle.format.specs.Elements.{first_constructed, Row, empty, framed, written, Reads}
+use Rattle.format.specs.Paths.{nth, inside, at_path, before, inner_start, place}
 use Rattle.format.proofs.Places.{at_path_empty, part_of_bytes}
 use Rattle.format.proofs.Readings.{same_reading}
 use Rattle.format.proofs.Walks.{Step, step, stop}
-use Rattle.element.specs.Cursors.{ahead, offset, Passes, NextElement, CursorGives}
+use Rattle.element.specs.Cursors.{ahead, offset, Passes, NextElement, IsNth, CursorGives}
 use Rattle.element.specs.Limits.{deepest, longest}
 use Rattle.element.specs.Located.{Leads, LeadsNowhere, PieceMeans}
 use Rattle.element.specs.inner.Found.{Found}
@@ -55,8 +55,8 @@ pub record Nth (d : ℕ) (row : Row) (n from : ℕ) (e : Element) : Type 0 where
   pub some : nth row n ≡ empty → ⊥
   pub is : e.whole.now ≡ written (nth row n)
   pub there : e.at ≡ from + before row n
-  pub plain : e.tag < 128 → inside (nth row n) ≡ empty
-  pub within : 128 ≤ e.tag → (less : ℕ) × Reads less longest e.contents.now (inside (nth row n)) × (e.contents_at ≡ from + before row n + header (nth row n))
+  pub plain : e.tag < first_constructed → inside (nth row n) ≡ empty
+  pub within : first_constructed ≤ e.tag → (less : ℕ) × Reads less longest e.contents.now (inside (nth row n)) × (e.contents_at ≡ from + before row n + inner_start (nth row n))
 
 pub nth_some : (d : ℕ) (row : Row) (k from : ℕ) (t : Cursor) (e : Element) (u : Cursor) → Passed d row k from t → Passes t e u → Nth d row k from e
 nth_some d row k from t e u q p =
@@ -73,7 +73,7 @@ nth_some d row k from t e u q p =
           let w = g.within l in (
             w.less,
             subst (λ r. Reads w.less longest e.contents.now (inside r)) (sym same) w.reads,
-            omega (arith, e.within, ap length e.is, w.size, at, ap header same),
+            omega (arith, e.within, ap length e.is, w.size, at, ap inner_start same),
           );
     }
 
@@ -90,7 +90,7 @@ unfolding at_path
 at_path_in row n [] h = absurd (omega arith)
 at_path_in row n (k ∷ rest) h = refl
 
-place_in : (row : Row) (n : ℕ) (rest : List ℕ) → 0 < length rest → place row (n ∷ rest) ≡ before row n + (header (nth row n) + place (inside (nth row n)) rest)
+place_in : (row : Row) (n : ℕ) (rest : List ℕ) → 0 < length rest → place row (n ∷ rest) ≡ before row n + (inner_start (nth row n) + place (inside (nth row n)) rest)
 unfolding place
 place_in row n [] h = absurd (omega arith)
 place_in row n (k ∷ rest) h = refl
@@ -107,7 +107,7 @@ module _ (bytes path : List ℕ) (i : ℕ) (c : Cursor) (h : Led bytes path i c)
       same ∙ ap (at_path left) e ∙ at_path_in left n (drop (i + 1) path) more ∙ ap (λ x. at_path x (drop (i + 1) path)) (f d left reads) ∙ at_path_empty (drop (i + 1) path)
 
   -- the path goes on within the element
-  pub led_inside : 0 < length (drop (i + 1) path) → (x : Element) (after : Cursor) → ahead after ≡ x.contents.now → offset after ≡ x.contents_at → 128 ≤ x.tag → ((d : ℕ) (left : Row) → Reads d longest (ahead c) left → Nth d left n (offset c) x) → Led bytes path (i + 1) after
+  pub led_inside : 0 < length (drop (i + 1) path) → (x : Element) (after : Cursor) → ahead after ≡ x.contents.now → offset after ≡ x.contents_at → first_constructed ≤ x.tag → ((d : ℕ) (left : Row) → Reads d longest (ahead c) left → Nth d left n (offset c) x) → Led bytes path (i + 1) after
   led_inside more x after ahead-is at-is high f = record {
     on = λ row r.
         let (d, left, reads, same, there) = h.on row r in
@@ -211,6 +211,20 @@ given_joined : (xs : List Element) (s t : Cursor) → Yields NextElement s xs t 
 given_joined [] s t e = ap ahead e
 given_joined (x ∷ xs) s t e = e.1.front ∙ ap (λ l. x.whole.now ++ l) (given_joined xs e.0 t e.2) ∙ sym (append_assoc x.whole.now (flat_map (λ y. y.whole.now) xs) (ahead t))
 
+-- what stands behind the first element stands one place further in the row
+nth_behind : (d : ℕ) (row : Row) (s : Cursor) (e : Element) (t : Cursor) → (p : Passes s e t) → (g : Step d longest row e.tag e.contents.now (ahead t)) → (n : ℕ) (o : Option Element) → IsNth g.behind (offset t) n o → IsNth row (offset s) (suc n) o
+nth_behind d row s e t p g n (Some x) h = (h.0 ∙ ap written (sym (g.after n)), omega (arith, h.1, g.later n, p.on, ap length e.is))
+nth_behind d row s e t p g n None h = g.after n ∙ h
+
+given_nth : (d : ℕ) (xs : List Element) (row : Row) (s t u : Cursor) → Reads d longest (ahead s) row → Yields NextElement s xs t → NextElement t None u → (n : ℕ) → IsNth row (offset s) n (slice_get xs n)
+given_nth d [] row s t u h e last n = nth_none d row 0 n (offset s) t u (passed d [] row s t h e) last (omega arith)
+given_nth d (x ∷ xs) row s t u h e last zero =
+    let first = nth_some d row 0 (offset s) s x e.0 (passed d [] row s s h refl) e.1 in
+    (first.is, first.there)
+given_nth d (x ∷ xs) row s t u h e last (suc n) =
+    let g = stepped d row s x e.0 h e.1 in
+    nth_behind d row s x e.0 e.1 g n (slice_get xs n) (given_nth d xs g.behind e.0 t u g.reads e.2 last n)
+
 pub cursor_gives : CursorGives
 unfolding written
 cursor_gives d row c end xs h ran =
@@ -218,4 +232,7 @@ cursor_gives d row c end xs h ran =
     let p = passed d xs row c t h ys in
     let none : p.left ≡ empty = stop d longest (ahead t) p.left p.reads (front_of (ahead t) last.1) in
     let gone : ahead t ≡ [] = sym p.reads.writing ∙ ap written none in
-    sym (given_joined xs c t ys ∙ ap (λ l. flat_map (λ e. e.whole.now) xs ++ l) gone ∙ append-nil (flat_map (λ e. e.whole.now) xs))
+    record {
+      each = given_nth d xs row c t end h ys last;
+      whole = sym (given_joined xs c t ys ∙ ap (λ l. flat_map (λ e. e.whole.now) xs ++ l) gone ∙ append-nil (flat_map (λ e. e.whole.now) xs));
+    }

@@ -1,4 +1,4 @@
--- What an index says of the bytes that it was made of.
+-- What an index says of the bytes that it was made of. `IndexOf` need not be read: what it means to a caller stands in the contracts of `new`, `verdict`, `locate` and `piece`.
 use Rattle.std.specs.Prelude.{ℕ, List, [], ◌∷◌, Some, None, Option, option_map, slice_get}
 use Rattle.element.specs.Judged.{Judged}
 use Rattle.element.specs.Located.{Located}

@@ -5,4 +5,5 @@ pub mod Indexed
 pub mod Judged
 pub mod Limits
 pub mod Located
+pub mod Machine
 pub mod Progressed

@@ -1,9 +1,9 @@
 // Elements noted once, found by their paths.
-ghost use Rattle.std.specs.Prelude.{ℕ, List, IfOk, option_map};
-ghost use Rattle.format.specs.Elements.{Row, Reads};
+ghost use Rattle.std.specs.Prelude.{◌≡◌, ℕ, List, [], IfOk, IsOk, option_map};
+ghost use Rattle.format.specs.Elements.{Row, empty, Reads};
 ghost use Rattle.element.specs.Cursors.{ahead, offset};
 ghost use Rattle.element.specs.Judged.{Judged};
-ghost use Rattle.element.specs.Limits.{longest};
+ghost use Rattle.element.specs.Limits.{deepest, longest};
 ghost use Rattle.element.specs.Indexed.{IndexOf};
 ghost use Rattle.element.specs.Located.{Located, Piece};
 ghost use Rattle.element.specs.inner.Noted.{Noted};
@@ -27,9 +27,10 @@ struct Entry {
     within: Vec<Entry>,
 }
 
-// Notes the elements of a row and those within them. Its calls nest as deep as the elements do.
+// Notes the elements of a row and those within them. Its calls nest as deep as the elements do. Out of memory only if there are bytes.
 fn note_row(heap: Global, cursor: Cursor<'_>) -> Result<Vec<Entry>, AllocError>
-    ensures { IfOk result (λ entries. (depth : ℕ) (row : Row) → Reads depth longest (ahead cursor.entry) row → Noted row entries.items (offset cursor.entry)) }
+    ensures quiet { ahead cursor.entry ≡ [] → IsOk result }
+    ensures noted { IfOk result (λ entries. (depth : ℕ) (row : Row) → Reads depth longest (ahead cursor.entry) row → Noted row entries.items (offset cursor.entry)) }
 {
     let mut entries = Vec::with_capacity(heap, cursor.count())?;
     for element in cursor {
@@ -47,9 +48,10 @@ fn note_row(heap: Global, cursor: Cursor<'_>) -> Result<Vec<Entry>, AllocError>
 }
 
 impl Index {
-    // Judges the bytes and notes their elements, none if they are malformed. Err: out of memory.
+    // Judges the bytes and notes their elements, none if they are malformed. Out of memory only if there are elements to note.
     pub fn new(heap: Global, bytes: &[u8]) -> Result<Index, AllocError>
-        ensures { IfOk result (IndexOf bytes.now) }
+        ensures quiet { ((row : Row) → Reads deepest longest bytes.now row → row ≡ empty) → IsOk result }
+        ensures index { IfOk result (IndexOf bytes.now) }
     {
         let verdict = judge(bytes);
         let row = match verdict {

@@ -3,7 +3,7 @@ ghost use Rattle.std.specs.Prelude.{◌-◌};
 ghost use Rattle.format.specs.Elements.{Readable};
 ghost use Rattle.element.specs.Judged.{Judged};
 ghost use Rattle.element.specs.Limits.{deepest, longest};
-ghost use Rattle.element.specs.inner.Openings.{Opened, Leaves};
+ghost use Rattle.element.specs.inner.Openings.{FrontElement, Leaves};
 
 use crate::progress::stepping::ill_place;
 use length::Length;
@@ -58,7 +58,7 @@ impl Reader {
 
     // The element at the front of the bytes.
     pub(crate) fn open<'a>(bytes: &'a [u8]) -> Option<Opening<'a>>
-        ensures { Opened bytes.now result }
+        ensures { FrontElement bytes.now result }
     {
         // One test covers the tag and the first byte of the length.
         let [tag, _, ..] = bytes else {

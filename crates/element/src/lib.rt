@@ -2,6 +2,7 @@
 #![tactic(auto)]
 
 ghost use Rattle.format.specs.Viable.{OnePlace};
+ghost use Rattle.element.specs.Appended.{AppendedReads};
 ghost use Rattle.element.specs.Limits.{deepest, longest};
 ghost use Rattle.element.specs.Cursors.{CursorGives};
 ghost use Rattle.element.specs.Located.{PieceMeans};
@@ -27,7 +28,7 @@ pub fn one_place_stands() -> u8
     0
 }
 
-// The elements that a cursor yields, one after the other, are the bytes of the row.
+// The elements that a cursor gives are those of the row, each at its place, and one behind the other they are its bytes.
 pub fn cursor_gives_stands() -> u8
     ensures { CursorGives }
 {
@@ -37,6 +38,13 @@ pub fn cursor_gives_stands() -> u8
 // A piece is the element as it is written, at its place, for every reading of the bytes.
 pub fn piece_means_stands() -> u8
     ensures { PieceMeans }
+{
+    0
+}
+
+// Bytes that read as a row read as one element more where an element was appended to them.
+pub fn appended_reads_stands() -> u8
+    ensures { AppendedReads }
 {
     0
 }

@@ -11,8 +11,7 @@ use position::Position;
 // Rows that can be open at once: the outermost, and one for each level.
 pub(crate) const ROWS: usize = Reader::MAX_DEPTH as usize + 1;
 
-// A reader that takes its bytes one by one: its position within an element, how many levels of constructed elements may open there, and how many bytes each open row still needs, the row in which n levels may open at index n.
-// The rows are an array, since reading allocates nothing.
+// A reader that takes its bytes one by one and allocates nothing: its position within an element, how many levels of constructed elements may open there, and how many bytes each open row still needs, the row in which n levels may open at index n.
 #[derive(Clone, Copy)]
 pub struct Progress {
     pub(crate) position: Position,

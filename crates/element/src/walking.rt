@@ -14,7 +14,7 @@ pub struct Cursor<'a> {
     ghost fits: { at + length rest.now < 2 ^ 64 },
 }
 
-// An element as it stands in the bytes: its tag, its contents, all its bytes, and where both begin. The contents of a constructed element need not be a row.
+// An element: its tag, its contents, all its bytes, and where both begin in the bytes that were lent to `Cursor::new`. The contents of a constructed element need not be a row.
 #[derive(Clone, Copy)]
 pub struct Element<'a> {
     pub tag: u8,

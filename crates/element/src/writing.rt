@@ -72,7 +72,7 @@ pub fn append_constructed(out: &mut Vec<u8>, tag: u8, row: &[u8]) -> Result<(), 
     if tag < Reader::CONSTRUCTED {
         return Err(WriteError::Tag);
     }
-    // Contents that are too long are refused for that, and not read.
+    // Contents that are too long are rejected for that, and not read.
     if row.len() <= Reader::MAX_LENGTH && !Reader::inner_row(row) {
         return Err(WriteError::Contents);
     }

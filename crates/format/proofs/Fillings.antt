@@ -1,7 +1,7 @@
 -- When open rows can be completed: what a header that has begun asks of the room, rows that are full, and bytes that fill a row.
 use Rattle.std.proofs.Common.{◌≡◌, ℕ, zero, suc, ◌+◌, ◌<◌, ◌≤◌, true, ◌⊎◌, List, [], ◌∷◌, ◌++◌, length, sym, refl, ap, ◌∙◌, subst, inl, inr, ⊎_elim, append-nil, arith, length-append}
 use Rattle.std.proofs.lemmas.List.{nil_from_length}
-use Rattle.format.specs.Elements.{Row, empty, written_length, framed, all_bytes, Reads, Readable}
+use Rattle.format.specs.Elements.{first_constructed, Row, empty, written_length, framed, all_bytes, Reads, Readable}
 use Rattle.format.proofs.Readings.{readable_none, reads_none, after_primitive}
 use Rattle.format.proofs.Rests.{taken, Fills, Closes, room, deduct, headed, Inside, primitive_came, constructed_came}
 use Rattle.format.proofs.Rows.{framed_size, as_primitive, as_constructed, has_front}
@@ -20,7 +20,7 @@ Enough (r ∷ (s ∷ rs)) k = (k ≤ r) × (k + 1 ≡ r → ⊥)
 
 -- a tag under which contents of n bytes may stand, with d levels left
 abbrev pub Kind : (d t n : ℕ) → Type 0
-Kind d t n = (t < 128) ⊎ ((128 ≤ t) × (t < 256) × (0 < d) × (n ≡ 1 → ⊥))
+Kind d t n = (t < first_constructed) ⊎ ((first_constructed ≤ t) × (t < 256) × (0 < d) × (n ≡ 1 → ⊥))
 
 -- what a tag and the bytes behind it say, if they complete open rows
 pub record Heading (d m : ℕ) (rows : List ℕ) (t : ℕ) (b : List ℕ) : Type 0 where
@@ -145,7 +145,7 @@ fillable_within n k (r ∷ (s ∷ rs)) h f = (h, f)
 -- a header that fits can be completed
 pub filling_headed : (d m t n : ℕ) (rows : List ℕ) → 1 ≤ m → n ≤ m → taken n ≤ room rows → Kind d t n → Enough rows (taken n) → Fillable rows → (c : List ℕ) × Fills d m rows (t ∷ (written_length n ++ c))
 filling_headed zero m t n rows some fits roomy kind enough h =
-    let low : t < 128 = omega arith in
+    let low : t < first_constructed = omega arith in
     let g = filling_inside zero m n (deduct (taken n) rows) some (fillable_behind (taken n) rows enough h) in
     (g.0, primitive_came zero m t n rows g.0 low fits roomy g.1)
 filling_headed (suc d) m t n rows some fits roomy kind enough h =

@@ -3,7 +3,7 @@ use Rattle.std.proofs.Common.{◌≡◌, ℕ, zero, suc, ◌+◌, ◌<◌, ◌�
 use lib.Seq.{drop-append-add}
 use Rattle.std.proofs.lemmas.Bool.{cases_order}
 use Rattle.format.specs.Elements.{Row, empty, primitive, constructed, written_length, framed, written}
-use Rattle.format.specs.Paths.{nth, inside, at_path, before, header, place}
+use Rattle.format.specs.Paths.{nth, inside, at_path, before, inner_start, place}
 use Rattle.format.specs.Promise.{PartOfBytes, OnePath}
 use Rattle.format.proofs.Fronts.{framed_is}
 use Rattle.format.proofs.Rows.{framed_size}
@@ -32,8 +32,8 @@ behind_header t c x =
     ap (drop (1 + k)) (framed_is t c x) ∙ ap (λ n. drop n (t ∷ (written_length (length c) ++ (c ++ x)))) (one-add k) ∙ drop_at (written_length (length c)) (c ++ x) k refl
 
 -- behind the header of a single element: the row within, and something behind it
-inside_there : (row : Row) (n : ℕ) (x : List ℕ) → (r : List ℕ) × (drop (header (nth row n)) (written (nth row n) ++ x) ≡ written (inside (nth row n)) ++ r)
-unfolding written nth inside header
+inside_there : (row : Row) (n : ℕ) (x : List ℕ) → (r : List ℕ) × (drop (inner_start (nth row n)) (written (nth row n) ++ x) ≡ written (inside (nth row n)) ++ r)
+unfolding written nth inside inner_start
 inside_there empty n x = (x, refl)
 inside_there (primitive t c r) zero x = (written (primitive t c empty) ++ x, refl)
 inside_there (primitive t c r) (suc n) x = inside_there r n x
@@ -49,9 +49,9 @@ part_there (n ∷ (k ∷ path)) row x =
     let a = nth_there row n x in
     let b = inside_there row n a.0 in
     let h = part_there (k ∷ path) (inside (nth row n)) b.0 in
-    let deeper = header (nth row n) + place (inside (nth row n)) (k ∷ path) in (
+    let deeper = inner_start (nth row n) + place (inside (nth row n)) (k ∷ path) in (
       h.0,
-      sym (drop-drop deeper (before row n) (written row ++ x)) ∙ ap (drop deeper) a.1 ∙ sym (drop-drop (place (inside (nth row n)) (k ∷ path)) (header (nth row n)) (written (nth row n) ++ a.0)) ∙ ap (drop (place (inside (nth row n)) (k ∷ path))) b.1 ∙ h.1,
+      sym (drop-drop deeper (before row n) (written row ++ x)) ∙ ap (drop deeper) a.1 ∙ sym (drop-drop (place (inside (nth row n)) (k ∷ path)) (inner_start (nth row n)) (written (nth row n) ++ a.0)) ∙ ap (drop (place (inside (nth row n)) (k ∷ path))) b.1 ∙ h.1,
     )
 
 pub part_of_bytes : PartOfBytes
@@ -88,22 +88,22 @@ ends_within (constructed t q r) zero = omega (arith, length-append (framed t (wr
 ends_within (constructed t q r) (suc n) = omega (arith, ends_within r n, length-append (framed t (written q)) (written r))
 
 -- the row within an element ends where the element does
-inside_within : (row : Row) (n : ℕ) → header (nth row n) + length (written (inside (nth row n))) ≤ length (written (nth row n))
-unfolding written nth inside header framed
+inside_within : (row : Row) (n : ℕ) → inner_start (nth row n) + length (written (inside (nth row n))) ≤ length (written (nth row n))
+unfolding written nth inside inner_start framed
 inside_within empty n = omega arith
 inside_within (primitive t c r) zero = omega arith
 inside_within (primitive t c r) (suc n) = inside_within r n
 inside_within (constructed t q r) zero = omega (arith, length-append (framed t (written q)) [], length-append (written_length (length (written q))) (written q))
 inside_within (constructed t q r) (suc n) = inside_within r n
 
--- an element within which something stands has a header
-header_some : (row : Row) (n : ℕ) → (inside (nth row n) ≡ empty → ⊥) → 0 < header (nth row n)
-unfolding nth inside header
-header_some empty n f = absurd (f refl)
-header_some (primitive t c r) zero f = absurd (f refl)
-header_some (primitive t c r) (suc n) f = header_some r n f
-header_some (constructed t q r) zero f = omega arith
-header_some (constructed t q r) (suc n) f = header_some r n f
+-- a row within an element begins behind where the element does
+inner_start_some : (row : Row) (n : ℕ) → (inside (nth row n) ≡ empty → ⊥) → 0 < inner_start (nth row n)
+unfolding nth inside inner_start
+inner_start_some empty n f = absurd (f refl)
+inner_start_some (primitive t c r) zero f = absurd (f refl)
+inner_start_some (primitive t c r) (suc n) f = inner_start_some r n f
+inner_start_some (constructed t q r) zero f = omega arith
+inner_start_some (constructed t q r) (suc n) f = inner_start_some r n f
 
 -- nothing is within no elements
 pub at_path_empty : (path : List ℕ) → at_path empty path ≡ empty
@@ -130,7 +130,7 @@ place_from (k ∷ path) row n = omega arith
 -- the path to an element within comes later than the path to the element
 place_deeper : (path : List ℕ) (row : Row) (n k : ℕ) → (at_path row (n ∷ (k ∷ path)) ≡ empty → ⊥) → place row (n ∷ []) < place row (n ∷ (k ∷ path))
 unfolding at_path place
-place_deeper path row n k f = omega (arith, header_some row n (at_path_some (inside (nth row n)) (k ∷ path) f))
+place_deeper path row n k f = omega (arith, inner_start_some row n (at_path_some (inside (nth row n)) (k ∷ path) f))
 
 -- the elements of a row are apart
 same_first : (p q : List ℕ) (row : Row) (n m : ℕ) → (at_path row (n ∷ p) ≡ empty → ⊥) → (at_path row (m ∷ q) ≡ empty → ⊥) → place row (n ∷ p) ≡ place row (m ∷ q) → m ≡ n
@@ -148,7 +148,7 @@ same_path (k ∷ p) (l ∷ q) row n m f g e =
     let s = same_first (k ∷ p) (l ∷ q) row n m f g e in
     let within = λ (i : ℕ). inside (nth row i) in
     let there = λ (i : ℕ). place (inside (nth row i)) (l ∷ q) in
-    let h = same_path p q (inside (nth row n)) k l f (subst (λ i. at_path (within i) (l ∷ q) ≡ empty → ⊥) s g) (omega (arith, ap (before row) s, ap (λ i. header (nth row i)) s, ap there s)) in
+    let h = same_path p q (inside (nth row n)) k l f (subst (λ i. at_path (within i) (l ∷ q) ≡ empty → ⊥) s g) (omega (arith, ap (before row) s, ap (λ i. inner_start (nth row i)) s, ap there s)) in
     cc
 
 pub one_path : OnePath

@@ -2,7 +2,7 @@
 use Rattle.std.proofs.Common.{◌≡◌, ℕ, zero, suc, ◌+◌, ◌<◌, ◌≤◌, Bool, true, false, ◌⊎◌, List, [], ◌∷◌, ◌++◌, length, sym, refl, ap, ◌∙◌, subst, inl, inr, ⊎_elim, append-nil, arith}
 use Rattle.std.proofs.lemmas.Bool.{cases_lt, cases_Bool, both_ways, false≢true}
 use Rattle.std.proofs.lemmas.List.{nil_from_length}
-use Rattle.format.specs.Elements.{Row, empty, primitive, constructed, framed, written, all_bytes, well_formed, Reads, Readable}
+use Rattle.format.specs.Elements.{first_constructed, Row, empty, primitive, constructed, framed, written, all_bytes, well_formed, Reads, Readable}
 use Rattle.format.specs.Promise.{OneReading, SameFront, single}
 use Rattle.format.proofs.Fronts.{Front, front, same_front}
 use Rattle.format.proofs.Rows.{primitive_parts, primitive_from, constructed_parts, constructed_from, framed_size, as_primitive, as_constructed, goes_on, has_front}
@@ -43,7 +43,7 @@ pub readable_none : (d m : ℕ) → Readable d m [] true
 readable_none d m = (empty, reads_none d m)
 
 -- behind a primitive element the rest decides
-pub after_primitive : (d m t : ℕ) (c r b : List ℕ) → t < 128 → all_bytes c ≡ true → length c ≤ m → b ≡ framed t c ++ r → (v : Bool) → Readable d m r v → Readable d m b v
+pub after_primitive : (d m t : ℕ) (c r b : List ℕ) → t < first_constructed → all_bytes c ≡ true → length c ≤ m → b ≡ framed t c ++ r → (v : Bool) → Readable d m r v → Readable d m b v
 unfolding written
 after_primitive d m t c r b low bytes fits e true h = (
   primitive t c h.0,
@@ -53,7 +53,7 @@ after_primitive d m t c r b low bytes fits e false h = λ row reads.
     elim (goes_on d m b row reads t c r e) [ as_primitive x y z rest k ↦ h rest k | as_constructed less x y z w q k rest l ↦ absurd (omega arith) ]
 
 -- behind a constructed element whose contents read as a row the rest decides
-pub after_constructed : (d m t : ℕ) (c r b : List ℕ) → 128 ≤ t → t < 256 → length c ≤ m → b ≡ framed t c ++ r → Readable d m c true → (v : Bool) → Readable (suc d) m r v → Readable (suc d) m b v
+pub after_constructed : (d m t : ℕ) (c r b : List ℕ) → first_constructed ≤ t → t < 256 → length c ≤ m → b ≡ framed t c ++ r → Readable d m c true → (v : Bool) → Readable (suc d) m r v → Readable (suc d) m b v
 unfolding written
 after_constructed d m t c r b high byte fits e inner true h =
     let q = inner.0 in
@@ -68,12 +68,12 @@ after_constructed d m t c r b high byte fits e inner false h = λ row reads.
     elim (goes_on (suc d) m b row reads t c r e) [ as_primitive x y z rest k ↦ absurd (omega arith) | as_constructed less x y z w q k rest l ↦ h rest l ]
 
 -- a constructed element whose contents do not read as a row
-pub contents_malformed : (d m t : ℕ) (c r b : List ℕ) → 128 ≤ t → b ≡ framed t c ++ r → Readable d m c false → Readable (suc d) m b false
+pub contents_malformed : (d m t : ℕ) (c r b : List ℕ) → first_constructed ≤ t → b ≡ framed t c ++ r → Readable d m c false → Readable (suc d) m b false
 contents_malformed d m t c r b high e h = λ row reads.
     elim (goes_on (suc d) m b row reads t c r e) [ as_primitive x y z rest k ↦ absurd (omega arith) | as_constructed less x y z w q k rest l ↦ let same : less ≡ d = omega arith in h q (subst (λ n. Reads n m c q) same k) ]
 
 -- a constructed element where none may stand
-pub too_deep : (m t : ℕ) (c r b : List ℕ) → 128 ≤ t → b ≡ framed t c ++ r → Readable zero m b false
+pub too_deep : (m t : ℕ) (c r b : List ℕ) → first_constructed ≤ t → b ≡ framed t c ++ r → Readable zero m b false
 too_deep m t c r b high e = λ row reads.
     elim (goes_on zero m b row reads t c r e) [ as_primitive x y z rest k ↦ absurd (omega arith) | as_constructed less x y z w q k rest l ↦ absurd (omega arith) ]
 
@@ -81,12 +81,12 @@ too_deep m t c r b high e = λ row reads.
 pub no_front : (d m : ℕ) (b : List ℕ) → 0 < length b → (Front m b → ⊥) → Readable d m b false
 no_front d m b some none = λ row reads. none (has_front d m b row reads some)
 
-tag_or_contents : (d m t : ℕ) (c r b : List ℕ) → b ≡ framed t c ++ r → (256 ≤ t) ⊎ ((t < 128) × (all_bytes c ≡ false)) → Readable d m b false
+tag_or_contents : (d m t : ℕ) (c r b : List ℕ) → b ≡ framed t c ++ r → (256 ≤ t) ⊎ ((t < first_constructed) × (all_bytes c ≡ false)) → Readable d m b false
 tag_or_contents d m t c r b e f = λ row reads.
     elim (goes_on d m b row reads t c r e) [ as_primitive x y z rest k ↦ ⊎_elim (λ g. omega arith) (λ g. both_ways (all_bytes c) g.1 y) f | as_constructed less x y z w q k rest l ↦ ⊎_elim (λ g. omega arith) (λ g. omega (arith, g.0)) f ]
 
 -- what a constructed element makes of the bytes, once its contents and what is behind it are decided
-decide_constructed : (d m : ℕ) (b : List ℕ) (f : Front m b) → 128 ≤ f.tag → f.tag < 256 → ((e : ℕ) → (v : Bool) × Readable e m f.contents v) → (v : Bool) × Readable d m f.behind v → (v : Bool) × Readable d m b v
+decide_constructed : (d m : ℕ) (b : List ℕ) (f : Front m b) → first_constructed ≤ f.tag → f.tag < 256 → ((e : ℕ) → (v : Bool) × Readable e m f.contents v) → (v : Bool) × Readable d m f.behind v → (v : Bool) × Readable d m b v
 decide_constructed zero m b f high byte inner rest = (false, too_deep m f.tag f.contents f.behind b high f.is)
 decide_constructed (suc d) m b f high byte inner rest = go (inner d).0 (inner d).1
   where
@@ -99,7 +99,7 @@ decide_first d m b f inner rest =
     ⊎_elim
     (λ low. ⊎_elim (λ y. (rest.0, after_primitive d m f.tag f.contents f.behind b low y f.fits f.is rest.0 rest.1)) (λ n. (false, tag_or_contents d m f.tag f.contents f.behind b f.is (inr (low, n)))) (cases_Bool (all_bytes f.contents)))
     (λ high. ⊎_elim (λ byte. decide_constructed d m b f high byte inner rest) (λ big. (false, tag_or_contents d m f.tag f.contents f.behind b f.is (inl big))) (cases_lt f.tag 256))
-    (cases_lt f.tag 128)
+    (cases_lt f.tag first_constructed)
 
 front_size : (m : ℕ) (b : List ℕ) (f : Front m b) → length f.contents + length f.behind < length b
 front_size m b f = omega (arith, ap length f.is, framed_size f.tag f.contents f.behind)

@@ -2,7 +2,7 @@
 use Rattle.std.proofs.Common.{◌≡◌, ℕ, suc, ◌+◌, ◌-◌, ◌<◌, ◌≤◌, true, List, [], ◌∷◌, ◌++◌, length, sym, refl, ap, ◌∙◌, subst, ⊎_elim, append_assoc, arith, length-append}
 use Rattle.std.proofs.lemmas.List.{nil_from_length}
 use Rattle.std.proofs.lemmas.Bool.{cases_lt}
-use Rattle.format.specs.Elements.{Row, written_length, framed, all_bytes, Reads, Readable}
+use Rattle.format.specs.Elements.{first_constructed, Row, written_length, framed, all_bytes, Reads, Readable}
 use Rattle.format.proofs.Fronts.{Front, framed_is}
 use Rattle.format.proofs.Lengths.{same_length}
 use Rattle.format.proofs.Readings.{after_primitive, after_constructed}
@@ -128,7 +128,7 @@ pub record Inside (n : ℕ) (Behind : List ℕ → Type 0) (c : List ℕ) : Type
   pub rest : Behind behind
 
 -- the header of a primitive element: its contents are still to come
-pub primitive_comes : (d m t n : ℕ) (rows c : List ℕ) → t < 128 → 0 < room rows → Fills d m rows (t ∷ (written_length n ++ c)) → Inside n (Fills d m (deduct (taken n) rows)) c
+pub primitive_comes : (d m t n : ℕ) (rows c : List ℕ) → t < first_constructed → 0 < room rows → Fills d m rows (t ∷ (written_length n ++ c)) → Inside n (Fills d m (deduct (taken n) rows)) c
 primitive_comes d m t n rows c low some f =
     let h = headed d m rows t (written_length n ++ c) some f in
     let s = same_length n (length h.contents) c (h.contents ++ (h.behind ++ h.outer)) h.is in
@@ -151,7 +151,7 @@ primitive_comes d m t n rows c low some f =
       | as_constructed less x y z w q k rest l ↦ absurd (omega arith)
     ]
 
-pub primitive_came : (d m t n : ℕ) (rows c : List ℕ) → t < 128 → n ≤ m → taken n ≤ room rows → Inside n (Fills d m (deduct (taken n) rows)) c → Fills d m rows (t ∷ (written_length n ++ c))
+pub primitive_came : (d m t n : ℕ) (rows c : List ℕ) → t < first_constructed → n ≤ m → taken n ≤ room rows → Inside n (Fills d m (deduct (taken n) rows)) c → Fills d m rows (t ∷ (written_length n ++ c))
 primitive_came d m t n rows c low fits roomy f =
     let k = cut_of d m (deduct (taken n) rows) f.behind f.rest in
     let u = f.contents in
@@ -177,7 +177,7 @@ fills_inner d m n k (r ∷ []) c some f = fills_top d m n r [] c f
 fills_inner d m n k (r ∷ (s ∷ rs)) c some f = fills_top d m n (r - k) (s ∷ rs) c f
 
 -- the header of a constructed element: its row is open now
-pub constructed_comes : (d m t n : ℕ) (rows c : List ℕ) → 128 ≤ t → 0 < room rows → Fills (suc d) m rows (t ∷ (written_length n ++ c)) → Fills d m (n ∷ deduct (taken n) rows) c
+pub constructed_comes : (d m t n : ℕ) (rows c : List ℕ) → first_constructed ≤ t → 0 < room rows → Fills (suc d) m rows (t ∷ (written_length n ++ c)) → Fills d m (n ∷ deduct (taken n) rows) c
 constructed_comes d m t n rows c high some f =
     let h = headed (suc d) m rows t (written_length n ++ c) some f in
     let s = same_length n (length h.contents) c (h.contents ++ (h.behind ++ h.outer)) h.is in
@@ -204,7 +204,7 @@ constructed_comes d m t n rows c high some f =
           })
     ]
 
-pub constructed_came : (d m t n : ℕ) (rows c : List ℕ) → 128 ≤ t → t < 256 → n ≤ m → taken n ≤ room rows → Fills d m (n ∷ deduct (taken n) rows) c → Fills (suc d) m rows (t ∷ (written_length n ++ c))
+pub constructed_came : (d m t n : ℕ) (rows c : List ℕ) → first_constructed ≤ t → t < 256 → n ≤ m → taken n ≤ room rows → Fills d m (n ∷ deduct (taken n) rows) c → Fills (suc d) m rows (t ∷ (written_length n ++ c))
 constructed_came d m t n rows c high byte fits roomy f =
     let g = fills_inner d m n (taken n) rows c (omega arith) f in
     let size : length g.inner ≡ n = g.closes.0 in

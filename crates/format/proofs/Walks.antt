@@ -1,7 +1,7 @@
 -- How a walk along bytes follows the row that they read as.
 use Rattle.std.proofs.Common.{◌≡◌, ℕ, suc, ◌+◌, ◌<◌, ◌≤◌, List, ◌++◌, length, sym, refl, ap, ◌∙◌, append-nil, arith, length-append}
-use Rattle.format.specs.Elements.{Row, empty, primitive, constructed, written_length, framed, written, Reads}
-use Rattle.format.specs.Paths.{nth, inside, before, header}
+use Rattle.format.specs.Elements.{first_constructed, Row, empty, primitive, constructed, written_length, framed, written, Reads}
+use Rattle.format.specs.Paths.{nth, inside, before, inner_start}
 use Rattle.format.proofs.Fronts.{Front, same_front}
 use Rattle.format.proofs.Rows.{primitive_parts, constructed_parts, framed_size}
 
@@ -9,7 +9,7 @@ use Rattle.format.proofs.Rows.{primitive_parts, constructed_parts, framed_size}
 pub record Within (d m : ℕ) (element : Row) (t : ℕ) (c : List ℕ) : Type 0 where
   pub less : ℕ
   pub reads : Reads less m c (inside element)
-  pub size : header element + length c ≡ length (framed t c)
+  pub size : inner_start element + length c ≡ length (framed t c)
 
 -- a row whose bytes begin with an element: that one, and the row behind it
 pub record Step (d m : ℕ) (row : Row) (t : ℕ) (c r : List ℕ) : Type 0 where
@@ -20,15 +20,15 @@ pub record Step (d m : ℕ) (row : Row) (t : ℕ) (c r : List ℕ) : Type 0 wher
   pub some : nth row 0 ≡ empty → ⊥
   pub here : written (nth row 0) ≡ framed t c
   pub first : before row 0 ≡ 0
-  pub plain : t < 128 → inside (nth row 0) ≡ empty
-  pub within : 128 ≤ t → Within d m (nth row 0) t c
+  pub plain : t < first_constructed → inside (nth row 0) ≡ empty
+  pub within : first_constructed ≤ t → Within d m (nth row 0) t c
 
-framed_length : (t : ℕ) (c : List ℕ) → 1 + length (written_length (length c)) + length c ≡ length (framed t c)
+pub framed_length : (t : ℕ) (c : List ℕ) → 1 + length (written_length (length c)) + length c ≡ length (framed t c)
 unfolding framed
 framed_length t c = omega (arith, length-append (written_length (length c)) c)
 
 pub step : (d m : ℕ) (b : List ℕ) (row : Row) → Reads d m b row → (t : ℕ) (c r : List ℕ) → b ≡ framed t c ++ r → Step d m row t c r
-unfolding written nth before inside header
+unfolding written nth before inside inner_start
 step d m b empty h t c r e = absurd (omega (arith, framed_size t c r, ap length (h.writing ∙ e)))
 step d m b (primitive u x rest) h t c r e =
     let s = same_front u t x c (written rest) r (h.writing ∙ e) in

@@ -7,6 +7,10 @@ pub data Row : Type 0 where
   primitive : (tag : ℕ) (contents : List ℕ) (rest : Row) → Row
   constructed : (tag : ℕ) (contents : Row) (rest : Row) → Row
 
+-- tags from this one on are of constructed elements
+abbrev pub first_constructed : ℕ
+first_constructed = 128
+
 -- the greatest length that can be written: a greater one does not fit into two bytes
 abbrev pub greatest_length : ℕ
 greatest_length = 65535
@@ -30,12 +34,12 @@ unfoldable pub all_bytes : List ℕ → Bool
 all_bytes [] = true
 all_bytes (x ∷ xs) = nat_lt x 256 && all_bytes xs
 
--- primitive elements have tags below 128, constructed ones tags from 128 to 255; contents have at most longest bytes; constructed elements are nested at most depth deep
+-- constructed elements have the tags from first_constructed to 255, primitive ones those below; contents have at most longest bytes; constructed elements are nested at most depth deep
 unfoldable pub well_formed : (depth longest : ℕ) → Row → Bool
 well_formed d m empty = true
-well_formed d m (primitive t c r) = nat_lt t 128 && (all_bytes c && (nat_le (length c) m && well_formed d m r))
+well_formed d m (primitive t c r) = nat_lt t first_constructed && (all_bytes c && (nat_le (length c) m && well_formed d m r))
 well_formed zero m (constructed t q r) = false
-well_formed (suc d) m (constructed t q r) = nat_le 128 t && (nat_lt t 256 && (nat_le (length (written q)) m && (well_formed d m q && well_formed (suc d) m r)))
+well_formed (suc d) m (constructed t q r) = nat_le first_constructed t && (nat_lt t 256 && (nat_le (length (written q)) m && (well_formed d m q && well_formed (suc d) m r)))
 
 -- the bytes read as the row: it is well-formed, and they are its bytes
 pub record Reads (depth longest : ℕ) (bytes : List ℕ) (row : Row) : Type 0 where

@@ -30,14 +30,14 @@ before (primitive t c r) (suc n) = length (framed t c) + before r n
 before (constructed t q r) zero = 0
 before (constructed t q r) (suc n) = length (framed t (written q)) + before r n
 
--- how many bytes the tag and the length of the first element take, if that is constructed
-unfoldable pub header : Row → ℕ
-header empty = 0
-header (primitive t c r) = 0
-header (constructed t q r) = 1 + length (written_length (length (written q)))
+-- where the row within the first element begins, behind its tag and its length, if that is constructed; else 0
+unfoldable pub inner_start : Row → ℕ
+inner_start empty = 0
+inner_start (primitive t c r) = 0
+inner_start (constructed t q r) = 1 + length (written_length (length (written q)))
 
 -- the place in the bytes of a row where the element by a path begins
 unfoldable pub place : Row → List ℕ → ℕ
 place row [] = 0
 place row (n ∷ []) = before row n
-place row (n ∷ (k ∷ path)) = before row n + (header (nth row n) + place (inside (nth row n)) (k ∷ path))
+place row (n ∷ (k ∷ path)) = before row n + (inner_start (nth row n) + place (inside (nth row n)) (k ∷ path))

@@ -1,4 +1,4 @@
--- The laws of the format, for every depth and every limit of the contents' length. Each is the contract of a function of the crate.
+-- The laws of the format, for every depth and every limit of the contents' length, but where a law says which. Each is the contract of a function of the crate.
 use Rattle.std.specs.Prelude.{◌≡◌, ℕ, ◌≤◌, Bool, true, false, ◌⊎◌, List, [], ◌∷◌, ◌++◌, length, take, drop, ◌≢◌}
 use Rattle.format.specs.Elements.{Row, empty, primitive, constructed, greatest_length, written, well_formed, Reads}
 use Rattle.format.specs.Spelled.{Spelled}
@@ -33,7 +33,7 @@ SameFrontAt depth longest =
 abbrev pub SameFront : Type 0
 SameFront = (depth longest : ℕ) → SameFrontAt depth longest
 
--- of all spellings of a row exactly one reads, the written one, and it reads as the row; no other row is written alike
+-- of all spellings of a row exactly one reads, the written one, and it reads as the row; no other well-formed row is written alike
 pub record OnlyWriting (depth longest : ℕ) (row : Row) : Type 0 where
   pub spelled : Spelled row (written row)
   pub reads : Reads depth longest (written row) row

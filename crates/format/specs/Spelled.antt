@@ -1,4 +1,4 @@
--- The spellings of a row: every way to put it into bytes, also with lengths in longer forms than they need.
+-- The spellings of a row: every way to put it into bytes, with any of the three forms of a length that has room for it.
 use Rattle.std.specs.Prelude.{ℕ, ◌/◌, ◌%◌, ◌<◌, ◌≤◌, List, [], ◌∷◌, ◌++◌, length}
 use Rattle.format.specs.Elements.{Row, empty, primitive, constructed, greatest_length}
 

@@ -2,7 +2,7 @@
 use Rattle.std.specs.Prelude.{◌≡◌, ℕ, ◌+◌, ◌<◌, ◌≤◌, true, List, ◌++◌, length, take}
 use Rattle.format.specs.Elements.{Row, all_bytes, Reads}
 
--- bytes are viable if some more bytes make them read as a row
+-- bytes are viable if some more make them read as a row; that those are bytes too follows, for a longest up to greatest_length
 abbrev pub Viable : (depth longest : ℕ) → (bytes : List ℕ) → Type 0
 Viable d m b = (more : List ℕ) × (row : Row) × Reads d m (b ++ more) row
 

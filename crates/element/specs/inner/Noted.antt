@@ -1,7 +1,7 @@
 -- The entries of a row of elements.
 use Rattle.std.specs.Prelude.{◌≡◌, ℕ, ◌+◌, List, [], ◌∷◌, length}
 use Rattle.format.specs.Elements.{Row, empty, primitive, constructed, framed, written}
-use Rattle.format.specs.Paths.{header}
+use Rattle.format.specs.Paths.{inner_start}
 use Rattle.element.specs.Indexed.{span_of}
 use Rattle.element.specs.declared.index.Entry.{Entry, out-Entry}
 
@@ -14,4 +14,4 @@ Noted (primitive t c r) (e ∷ es) at =
     ((span_of e).at ≡ at) × ((span_of e).len ≡ length (framed t c)) × ((out-Entry e).within.items ≡ []) × Noted r es (at + length (framed t c))
 Noted (constructed t q r) [] at = ⊥
 Noted (constructed t q r) (e ∷ es) at =
-    ((span_of e).at ≡ at) × ((span_of e).len ≡ length (framed t (written q))) × Noted q (out-Entry e).within.items (at + header (constructed t q r)) × Noted r es (at + length (framed t (written q)))
+    ((span_of e).at ≡ at) × ((span_of e).len ≡ length (framed t (written q))) × Noted q (out-Entry e).within.items (at + inner_start (constructed t q r)) × Noted r es (at + length (framed t (written q)))

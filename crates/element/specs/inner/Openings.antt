@@ -12,9 +12,9 @@ pub record Opens (b : List ℕ) (o : Opening) : Type 0 where
   pub is : b ≡ framed o.tag o.contents.now ++ o.behind.now
 
 -- the element at the front of the bytes, or none exactly if no element stands there
-abbrev pub Opened : List ℕ → Option Opening → Type 0
-Opened b (Some o) = Opens b o
-Opened b None = (tag : ℕ) (contents behind : List ℕ) → length contents ≤ longest → b ≢ framed tag contents ++ behind
+abbrev pub FrontElement : List ℕ → Option Opening → Type 0
+FrontElement b (Some o) = Opens b o
+FrontElement b None = (tag : ℕ) (contents behind : List ℕ) → length contents ≤ longest → b ≢ framed tag contents ++ behind
 
 -- whether a part of the bytes reads as a row, at its depth, decides whether the bytes do
 pub record Decides (depth : ℕ) (b : List ℕ) (rest : Rest) : Type 0 where

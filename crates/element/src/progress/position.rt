@@ -1,6 +1,6 @@
 // Where a reader is within an element, and where one more byte leads it.
 ghost use Rattle.std.specs.Prelude.{◌≡◌};
-ghost use Rattle.element.specs.inner.Machine.{taken, after_tag, after_first, after_high, next_position};
+ghost use Rattle.element.specs.Machine.{taken, after_tag, after_first, after_high, next_position};
 
 use crate::judging::Reader;
 use length::Length;

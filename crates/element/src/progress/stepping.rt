@@ -1,9 +1,9 @@
 // Bytes read one by one, and the place where they are malformed.
 ghost use Rattle.std.specs.Prelude.{◌≡◌, ℕ, ◌+◌, ◌≤◌, List, [], ◌∷◌, ◌++◌, length, drop};
 ghost use Rattle.element.specs.Limits.{deepest};
+ghost use Rattle.element.specs.Machine.{state, start, at_position, entered, spent, settled, stepped, full, status_at};
 ghost use Rattle.element.specs.Progressed.{Gone, StatusSays, Skipped};
 ghost use Rattle.element.specs.inner.IllPlace.{IllPlace};
-ghost use Rattle.element.specs.inner.Machine.{state, at_position, entered, spent, settled, full};
 
 use crate::judging::Reader;
 use crate::progress::position::{Position, taken};
@@ -15,7 +15,8 @@ impl Progress {
 
     // A reader before the first byte.
     pub fn new() -> Progress
-        ensures { Gone result [] }
+        ensures is { state result ≡ start }
+        ensures gone { Gone result [] }
     {
         Progress {
             position: Position::Tag,
@@ -26,6 +27,7 @@ impl Progress {
 
     // Reads a byte, and answers what is known of the bytes so far.
     pub fn step(&mut self, byte: u8) -> Status
+        ensures goes { state self.new ≡ stepped (state self.old) byte }
         ensures gone { (b : List ℕ) → Gone self.old b → Gone self.new (b ++ (byte ∷ [])) }
         ensures says { (b : List ℕ) → Gone self.old b → StatusSays (b ++ (byte ∷ [])) result }
     {
@@ -98,7 +100,8 @@ impl Progress {
 
     // What is known of the bytes so far.
     pub fn status(&self) -> Status
-        ensures { (b : List ℕ) → Gone self.now b → StatusSays b result }
+        ensures is { result ≡ status_at self.now.levels self.now.position }
+        ensures says { (b : List ℕ) → Gone self.now b → StatusSays b result }
     {
         match self.position {
             Position::Nowhere => Status::Dead,
@@ -107,15 +110,15 @@ impl Progress {
         }
     }
 
-    // Skips the contents of a primitive element, at most `most` bytes, without reading them; answers how many it skipped.
-    pub fn skip(&mut self, most: usize) -> usize
-        ensures { Skipped self.old most result self.new }
+    // Skips the contents of a primitive element, at most `limit` bytes, without reading them; answers how many it skipped.
+    pub fn skip(&mut self, limit: usize) -> usize
+        ensures { Skipped self.old limit result self.new }
     {
         let position = self.position;
         let Position::Contents { left } = position else {
             return 0;
         };
-        let over = left.min(u16::try_from(most).unwrap_or(u16::MAX));
+        let over = left.min(u16::try_from(limit).unwrap_or(u16::MAX));
         if over == 0 {
             return 0;
         }

@@ -29,12 +29,12 @@ loop-element-preserved t c =
             )
         | in-Some-row+in_ok-within-in-Some-row w ↦ noting_more _ _ _ _ _ _ _ p s c.in_ok-push.ensures.items (
             let high = w.in-Some-row.ensures.0 in
-            record { there = refl; size = refl; plain = λ l. absurd (omega (arith, high)); nested = λ l. rw w.within-is (noted_inside c.in-Some.element w.in-Some-row.row _ w.in-Some-row.ensures w.in_ok-within-in-Some-row.ensures) }
+            record { there = refl; size = refl; plain = λ l. absurd (omega (arith, high)); nested = λ l. rw w.within-is (noted_inside c.in-Some.element w.in-Some-row.row _ w.in-Some-row.ensures w.in_ok-within-in-Some-row.ensures.noted) }
             )
       ],
     )
 
-pub returns : goal.returns
-returns t c =
+pub returns-clause-noted : goal.returns-clause-noted
+returns-clause-noted t c =
     subst (λ (u : Cursor). (depth : ℕ) (row : Row) → Reads depth longest (ahead u) row → Noted row c.loop-element.entries.items (offset u)) c.into_iter-element-iterator.ensures.into_iter_gives
     (noting_all _ _ _ _ c.loop-element.invariant.2 c.in-None.ensures.steps)

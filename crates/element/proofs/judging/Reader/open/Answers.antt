@@ -1,6 +1,6 @@
 use Rattle.std.proofs.Common.{◌≡◌, ℕ, List, ◌+◌, ◌-◌, refl, length, take, drop, get_or, ap, ◌∙◌, sym, subst, arith, length-drop, drop-drop}
 use Rattle.std.proofs.lemmas.List.{take_rest}
-use Rattle.element.specs.inner.Openings.{Opened}
+use Rattle.element.specs.inner.Openings.{FrontElement}
 use Rattle.element.proofs.Openings.{opens_from, shut_few, shut_length, shut_long, length_behind}
 use Rattle.element.proofs.judging.Reader.open.Goals as goal
 
@@ -9,7 +9,7 @@ returns-in_default c = shut_few c.args.bytes.now (omega arith)
 
 pub returns-in_err-value : goal.returns-in_err-value
 returns-in_err-value c =
-    subst (Opened c.args.bytes.now) (sym c.from_residual.ensures)
+    subst (FrontElement c.args.bytes.now) (sym c.from_residual.ensures)
     (shut_length c.args.bytes.now (omega arith) (length_behind c.args.bytes.now (λ i. (c.type_inv.bytes i).fits) _ c.in_err-value.ensures))
 
 -- what is behind a tag and a length of k bytes

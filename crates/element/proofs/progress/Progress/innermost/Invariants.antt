@@ -1,6 +1,6 @@
 use Rattle.std.proofs.Common.{◌≡◌, ◌+◌, ◌-◌, ◌≤◌, drop}
 use Rattle.element.specs.Limits.{deepest}
-use Rattle.element.specs.inner.Machine.{full}
+use Rattle.element.specs.Machine.{full}
 use Rattle.element.proofs.progress.Progress.innermost.Given as goal
 
 abbrev pub invariant-loop-levels : goal.invariant-loop-levels

@@ -3,4 +3,4 @@ use Rattle.element.proofs.Gone.{gone_none}
 use Rattle.element.proofs.progress.Progress.new.Goals as goal
 
 pub returns : goal.returns
-returns c = gone_none _ refl
+returns c = record { is = refl; gone = gone_none _ refl }

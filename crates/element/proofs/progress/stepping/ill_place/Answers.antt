@@ -5,7 +5,7 @@ use Rattle.element.proofs.Gone.{reading_start, reading_dead, reading_on}
 use Rattle.element.proofs.progress.stepping.ill_place.Goals as goal
 
 pub loop-rest-init : goal.loop-rest-init
-loop-rest-init c = reading_start c.args.bytes.now c.new-reader.result (all_bytes_from c.args.bytes.now (λ i. (c.type_inv.bytes i).fits)) c.new-reader.ensures
+loop-rest-init c = reading_start c.args.bytes.now c.new-reader.result (all_bytes_from c.args.bytes.now (λ i. (c.type_inv.bytes i).fits)) c.new-reader.ensures.gone
 
 pub returns-in-Dead : goal.returns-in-Dead
 returns-in-Dead c = reading_dead c.args.bytes.now c.loop-rest.reader c.step.new.self c.loop-rest.rest.now c.loop-rest.invariant (omega arith) c.step.result c.step.ensures.gone c.step.ensures.says c.in-Dead.is

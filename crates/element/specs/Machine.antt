@@ -1,6 +1,6 @@
 -- How a reader goes from byte to byte.
-use Rattle.std.specs.Prelude.{◌≡◌, ℕ, suc, ◌+◌, ◌-◌, ◌*◌, true, cond, ◌&&◌, ◌||◌, List, [], ◌∷◌, length, drop, replicate, ◌==◌, nat_le, nat_lt, slice_index, slice_set}
-use Rattle.format.specs.Elements.{written_length, all_bytes}
+use Rattle.std.specs.Prelude.{ℕ, suc, ◌+◌, ◌-◌, ◌*◌, cond, ◌&&◌, ◌||◌, List, [], ◌∷◌, length, drop, replicate, ◌==◌, nat_le, nat_lt, slice_index, slice_set}
+use Rattle.format.specs.Elements.{first_constructed, written_length}
 use Rattle.element.specs.Limits.{deepest, longest}
 use Rattle.element.specs.declared.progress.Progress.{Progress}
 use Rattle.element.specs.declared.progress.Status.{Status}
@@ -18,7 +18,7 @@ endless = 2 * (longest + 1)
 
 -- a constructed element needs a level, and does not fit where an empty one would leave one byte
 abbrev pub after_tag : (room levels tag : ℕ) → Position
-after_tag room levels t = cond (nat_lt t 128) (Length t) (cond (levels == 0 || room == taken 0 + 1) Nowhere (Length t))
+after_tag room levels t = cond (nat_lt t first_constructed) (Length t) (cond (levels == 0 || room == taken 0 + 1) Nowhere (Length t))
 
 -- below 128 a length is whole; behind 129 and 130 there must be room for the shortest contents with such a length
 abbrev pub after_first : (room tag byte : ℕ) → Position
@@ -51,6 +51,7 @@ pub record State : Type 0 where
 abbrev pub start : State
 start = record { position = Tag; levels = deepest; rooms = replicate (deepest + 1) endless }
 
+-- the same at another position
 abbrev pub at_position : State → Position → State
 at_position s p = record { position = p; levels = s.levels; rooms = s.rooms }
 
@@ -70,9 +71,10 @@ within s n = record { position = Tag; levels = s.levels - 1; rooms = slice_set s
 abbrev pub opened : State → (tag n : ℕ) → State
 opened s t n =
     cond (nat_lt (room_of s) (taken n) || room_of s == taken n + 1) (at_position s Nowhere)
-    (cond (nat_lt t 128) (at_position (spent s (taken n)) (Contents n))
+    (cond (nat_lt t first_constructed) (at_position (spent s (taken n)) (Contents n))
     (cond (n == 1 || s.levels == 0) (at_position s Nowhere) (within (spent s (taken n)) n)))
 
+-- behind a header its element is opened; anywhere else nothing changes
 abbrev pub entered_at : State → Position → State
 entered_at s (Header t n) = opened s t n
 entered_at s Tag = s
@@ -83,6 +85,7 @@ entered_at s (LowByte t h) = s
 entered_at s (Contents n) = s
 entered_at s Nowhere = s
 
+-- the same by its own position
 abbrev pub entered : State → State
 entered s = entered_at s s.position
 
@@ -96,6 +99,7 @@ full (r ∷ (s ∷ rows)) = cond (r == 0) (suc (full (s ∷ rows))) 0
 abbrev pub unfilled : State → State
 unfilled s = record { position = Tag; levels = s.levels + full (drop s.levels s.rooms); rooms = s.rooms }
 
+-- before a tag or at the end of contents, the rows that have all their bytes are closed
 abbrev pub settled_at : State → Position → State
 settled_at s Tag = unfilled s
 settled_at s (Contents n) = cond (n == 0) (unfilled s) s
@@ -106,6 +110,7 @@ settled_at s (LowByte t h) = s
 settled_at s (Header t n) = s
 settled_at s Nowhere = s
 
+-- the same by its own position
 abbrev pub settled : State → State
 settled s = settled_at s s.position
 
@@ -118,13 +123,9 @@ unfoldable pub run : State → List ℕ → State
 run s [] = s
 run s (x ∷ b) = run (stepped s x) b
 
+-- what a reader keeps
 abbrev pub state : Progress → State
 state p = record { position = p.position; levels = p.levels; rooms = p.rooms }
-
--- the reader has gone over these bytes, from the first
-pub record Gone (p : Progress) (bytes : List ℕ) : Type 0 where
-  pub each : all_bytes bytes ≡ true
-  pub is : state p ≡ run start bytes
 
 -- what the position says of the bytes so far: before a tag of the outermost row they could end
 abbrev pub status_at : (levels : ℕ) → Position → Status
