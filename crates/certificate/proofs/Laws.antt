@@ -2,8 +2,9 @@
 use Rattle.std.proofs.Common.{◌≡◌, ℕ, suc, ◌-◌, ◌^◌, ◌<◌, Bool, true, false, List, [], ◌∷◌, ◌++◌, length, get_or, take, drop, Some, None, is_ok, Ok, Err, Result, sym, refl, ap, ◌∙◌, subst, append_assoc, append-nil, arith}
 use Rattle.std.proofs.lemmas.Bool.{false≢true}
 use mir.Val.{bool_byte}
-use Rattle.format.specs.Elements.{Row, empty, primitive, framed, written, well_formed, Reads}
+use Rattle.format.specs.Elements.{Row, empty, primitive, first_constructed, framed, written, well_formed, Reads}
 use Rattle.format.proofs.Fronts.{same_front}
+use Rattle.format.proofs.Readings.{reads_none}
 use Rattle.format.proofs.Rows.{primitive_from, constructed_from, framed_size}
 use Rattle.trust.specs.Chains.{Certificate}
 use Rattle.element.specs.Limits.{deepest, longest}
@@ -51,20 +52,16 @@ one_permit c d h g e =
 
 pub decodes_back : DecodesBack
 decodes_back h (Some k) r e =
-    let same = one_permit (certificate_of k) (certificate_of h) e.0 r e.1 in
+    let same = one_permit (certificate_of k) (certificate_of h) e.range r e.is in
     λ i. Some (record { subject = (same i).subject; issuer = (same i).issuer; not_before = (same i).not_before; not_after = (same i).not_after; may_issue = (same i).may_issue; path_len = (same i).path_len })
-decodes_back h None r e = absurd (e (certificate_of h) r refl)
+decodes_back h None r e = absurd (e (certificate_of h) (record { range = r; is = refl }))
 
 module _ (d : ℕ) where
-  number_well : (t n : ℕ) (r : Row) → t < 128 → n < 2 ^ 32 → well_formed d longest r ≡ true → well_formed d longest (primitive t (number_bytes n) r) ≡ true
+  number_well : (t n : ℕ) (r : Row) → t < first_constructed → n < 2 ^ 32 → well_formed d longest r ≡ true → well_formed d longest (primitive t (number_bytes n) r) ≡ true
   number_well t n r low h e = primitive_from d longest t (number_bytes n) r (record { low = low; bytes = bytes_all n h; fits = omega (arith, few_bytes n h); rest = e })
 
-  mark_well : (b : Bool) (r : Row) → well_formed d longest r ≡ true → well_formed d longest (primitive 5 (flag_bytes b) r) ≡ true
-  mark_well b r e = subst (λ l. well_formed d longest (primitive 5 l r) ≡ true) (bit_bytes b) (number_well 5 (bit b) r (omega arith) (bit_below b) e)
-
-  end_well : well_formed d longest empty ≡ true
-  unfolding well_formed
-  end_well = refl
+  flag_well : (b : Bool) (r : Row) → well_formed d longest r ≡ true → well_formed d longest (primitive 5 (flag_bytes b) r) ≡ true
+  flag_well b r e = subst (λ l. well_formed d longest (primitive 5 l r) ≡ true) (bit_bytes b) (number_well 5 (bit b) r (omega arith) (bit_below b) e)
 
   fields_well : (c : Certificate) → InRange c → well_formed d longest (fields_row c) ≡ true
   unfolding fields_row
@@ -73,15 +70,15 @@ module _ (d : ℕ) where
       (number_well 2 c.issuer _ (omega arith) h.issuer
       (number_well 3 c.not_before _ (omega arith) h.not_before
       (number_well 4 c.not_after _ (omega arith) h.not_after
-      (mark_well c.may_issue _
-      (number_well 6 c.path_len empty (omega arith) h.path_len end_well)))))
+      (flag_well c.may_issue _
+      (number_well 6 c.path_len empty (omega arith) h.path_len (reads_none d longest).well)))))
 
 pub fields_read : (d : ℕ) (c : Certificate) → InRange c → Reads d longest (written (fields_row c)) (fields_row c)
 fields_read d c h = record { well = fields_well d c h; writing = refl }
 
 pub permit_reads : PermitReads
 unfolding permit_row
-permit_reads c h = record { well = constructed_from (deepest - 1) longest 128 (fields_row c) empty (omega arith) (omega arith) (omega (arith, fields_few c h)) (fields_well (deepest - 1) c h) (end_well deepest); writing = refl }
+permit_reads c h = record { well = constructed_from (deepest - 1) longest 128 (fields_row c) empty (omega arith) (omega arith) (omega (arith, fields_few c h)) (fields_well (deepest - 1) c h) (reads_none deepest longest).well; writing = refl }
 
 -- what was written, where writing succeeded
 pub written_behind : (T C : Type 0) (tag : ℕ) (contents old new : List ℕ) (r : Result Unit WriteError) → Writes T C tag contents old new r → is_ok r ≡ true → new ≡ old ++ framed tag contents
@@ -111,11 +108,11 @@ pub six_written : (c : Certificate) (n : ℕ) {v v₁ v₂ v₃ v₄ v₅ v₆ :
     → AppendedField 4 c.not_after v₃ v₄ → AppendedField 5 n v₄ v₅ → AppendedField 6 c.path_len v₅ v₆
     → InRange c × (v₆ ≡ written (fields_row c))
 six_written c n {v} {v₁} {v₂} {v₃} {v₄} {v₅} {v₆} m e e₁ e₂ e₃ e₄ e₅ e₆ =
-    let mark = m ∙ byte_bit c.may_issue in (
+    let flag = m ∙ byte_bit c.may_issue in (
       record { subject = e₁.range; issuer = e₂.range; not_before = e₃.range; not_after = e₄.range; path_len = e₆.range },
       sym (append-nil v₆)
           ∙ grown v₅ v₆ 6 c.path_len [] e₆.behind
-          ∙ grown v₄ v₅ 5 (bit c.may_issue) (c.path_len ∷ []) (subst (λ k. v₅ ≡ v₄ ++ framed 5 (number_bytes k)) mark e₅.behind)
+          ∙ grown v₄ v₅ 5 (bit c.may_issue) (c.path_len ∷ []) (subst (λ k. v₅ ≡ v₄ ++ framed 5 (number_bytes k)) flag e₅.behind)
           ∙ grown v₃ v₄ 4 c.not_after (bit c.may_issue ∷ (c.path_len ∷ [])) e₄.behind
           ∙ grown v₂ v₃ 3 c.not_before (c.not_after ∷ (bit c.may_issue ∷ (c.path_len ∷ []))) e₃.behind
           ∙ grown v₁ v₂ 2 c.issuer (c.not_before ∷ (c.not_after ∷ (bit c.may_issue ∷ (c.path_len ∷ [])))) e₂.behind

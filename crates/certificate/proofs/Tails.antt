@@ -65,12 +65,12 @@ below c h (suc (suc (suc (suc (suc zero))))) = h.path_len
 below c h (suc (suc (suc (suc (suc (suc k)))))) = omega arith
 
 -- what a number says that stands for yes or no
-bit_marked : (b : Bool) → flag_of (bit b) ≡ None → ⊥
-bit_marked true e = let z : ◌≡◌ {A = ℕ} 0 1 = cc in omega arith
-bit_marked false e = let z : ◌≡◌ {A = ℕ} 0 1 = cc in omega arith
+bit_flag : (b : Bool) → flag_of (bit b) ≡ None → ⊥
+bit_flag true e = let z : ◌≡◌ {A = ℕ} 0 1 = cc in omega arith
+bit_flag false e = let z : ◌≡◌ {A = ℕ} 0 1 = cc in omega arith
 
-mark_bit : (n : ℕ) (m : Bool) → Some m ≡ flag_of n → n ≡ bit m
-mark_bit n m e = grind (arith, nat_tests)
+flag_bit : (n : ℕ) (m : Bool) → Some m ≡ flag_of n → n ≡ bit m
+flag_bit n m e = grind (arith, nat_tests)
 
 -- behind the first k fields: whatever certificate the fields from the start say, those ahead are its others
 pub record Left (s : Cursor) (k : ℕ) (c : Cursor) : Type 0 where
@@ -122,9 +122,9 @@ module _ {s c₁ : Cursor} {n₁ : ℕ} (one : SaysField s 1 n₁ c₁) where
           pub left_5 : Left s 5 c₅
           left_5 = left_more 4 (omega arith) left_4 five
 
-          -- a fifth field that is no mark
-          pub no_mark : None ≡ flag_of n₅ → Fieldless s
-          no_mark none p r e = bit_marked p.may_issue (ap flag_of (left_same 4 (omega arith) left_4 five p r e) ∙ sym none)
+          -- a fifth field that is no flag
+          pub no_flag : None ≡ flag_of n₅ → Fieldless s
+          no_flag none p r e = bit_flag p.may_issue (ap flag_of (left_same 4 (omega arith) left_4 five p r e) ∙ sym none)
 
           module _ {c₆ : Cursor} {n₆ : ℕ} (six : SaysField c₅ 6 n₆ c₆) where
             -- something behind the sixth field
@@ -134,7 +134,7 @@ module _ {s c₁ : Cursor} {n₁ : ℕ} (one : SaysField s 1 n₁ c₁) where
             -- nothing behind it
             pub six_fields : eqb (length (ahead c₆)) 0 ≡ true → (m : Bool) → Some m ≡ flag_of n₅ → tagged 1 (n₁ ∷ (n₂ ∷ (n₃ ∷ (n₄ ∷ (bit m ∷ (n₆ ∷ [])))))) ≡ ahead s
             six_fields none m e =
-                ap (λ n. tagged 1 (n₁ ∷ (n₂ ∷ (n₃ ∷ (n₄ ∷ (n ∷ (n₆ ∷ []))))))) (sym (mark_bit n₅ m e))
+                ap (λ n. tagged 1 (n₁ ∷ (n₂ ∷ (n₃ ∷ (n₄ ∷ (n ∷ (n₆ ∷ []))))))) (sym (flag_bit n₅ m e))
                 ∙ said (n₂ ∷ (n₃ ∷ (n₄ ∷ (n₅ ∷ (n₆ ∷ []))))) one (said (n₃ ∷ (n₄ ∷ (n₅ ∷ (n₆ ∷ [])))) two (said (n₄ ∷ (n₅ ∷ (n₆ ∷ []))) three (said (n₅ ∷ (n₆ ∷ [])) four (said (n₆ ∷ []) five (said [] six (sym (nil_from_length (ahead c₆) (eqb-true (length (ahead c₆)) 0 none))))))))
 
 -- what the element at the front of a cursor makes of the next field

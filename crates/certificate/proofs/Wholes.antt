@@ -11,9 +11,9 @@ use Rattle.element.specs.declared.walking.Element.{Element}
 use Rattle.element.specs.Cursors.{ahead, Passes}
 use Rattle.element.proofs.Walks.{split}
 use Rattle.element.specs.Limits.{longest}
-use Rattle.certificate.specs.declared.Certificate.{Certificate as Held}
+use Rattle.certificate.specs.declared.Certificate.{Certificate as CertificateFields}
 use Rattle.certificate.specs.Numbers.{number_bytes}
-use Rattle.certificate.specs.Permits.{fields_row, permit_row, permit_bytes, certificate_of, InRange, Decoded}
+use Rattle.certificate.specs.Permits.{fields_row, permit_row, permit_bytes, certificate_of, InRange, Permit, Decoded}
 use Rattle.certificate.specs.inner.Fields.{AllFields}
 use Rattle.certificate.proofs.Digits.{few_bytes}
 use Rattle.certificate.proofs.Tails.{tagged, numbers_of, fields_are, below}
@@ -39,10 +39,10 @@ fields_few c h = omega (arith, ap length (fields_are c), tagged_few 1 (numbers_o
 
 -- no certificate has the bytes
 abbrev pub NoPermit : List ℕ → Type 0
-NoPermit b = (c : Certificate) → InRange c → permit_bytes c ≡ b → ⊥
+NoPermit b = (c : Certificate) → Permit b c → ⊥
 
 pub no_element : (b : List ℕ) → ((tag : ℕ) (contents behind : List ℕ) → length contents ≤ longest → b ≡ framed tag contents ++ behind → ⊥) → NoPermit b
-no_element b none c h e = none 128 (written (fields_row c)) [] (omega (arith, fields_few c h)) (sym e ∙ permit_is c)
+no_element b none c p = none 128 (written (fields_row c)) [] (omega (arith, fields_few c p.range)) (sym p.is ∙ permit_is c)
 
 -- what the element at the front makes of the bytes
 module _ (b : List ℕ) (s : Cursor) (e : Element) (after : Cursor) (start : ahead s ≡ b) (p : Passes s e after) where
@@ -50,15 +50,15 @@ module _ (b : List ℕ) (s : Cursor) (e : Element) (after : Cursor) (start : ahe
   parts c k = same_front e.tag 128 e.contents.now (written (fields_row c)) (ahead after) [] (sym (split p) ∙ start ∙ sym k ∙ permit_is c)
 
   pub other_tag : (e.tag ≡ 128 → ⊥) → NoPermit b
-  other_tag other c h k = other (parts c k).0
+  other_tag other c k = other (parts c k.is).0
 
   pub one_behind : eqb (length (ahead after)) 0 ≡ false → NoPermit b
-  one_behind some c h k = eqb-false (length (ahead after)) 0 some (ap length (parts c k).2)
+  one_behind some c k = eqb-false (length (ahead after)) 0 some (ap length (parts c k.is).2)
 
   module _ (tag : e.tag ≡ 128) (last : eqb (length (ahead after)) 0 ≡ true) (inner : Cursor) (within : ahead inner ≡ e.contents.now) where
-    pub whole : (r : Option Held) → AllFields inner r → Decoded b r
+    pub whole : (r : Option CertificateFields) → AllFields inner r → Decoded b r
     whole (Some h) k =
         let none : ahead after ≡ [] = nil_from_length (ahead after) (eqb-true (length (ahead after)) 0 last) in
         let same : e.contents.now ≡ written (fields_row (certificate_of h)) = sym (k.1 ∙ within) in
-        (k.0, permit_is (certificate_of h) ∙ sym (λ i. framed (tag i) (same i) ++ none i) ∙ sym (split p) ∙ start)
-    whole None k = λ c h l. k c h (sym (within ∙ (parts c l).1))
+        record { range = k.0; is = permit_is (certificate_of h) ∙ sym (λ i. framed (tag i) (same i) ++ none i) ∙ sym (split p) ∙ start }
+    whole None k = λ c l. k c l.range (sym (within ∙ (parts c l.is).1))

@@ -3,7 +3,7 @@ use Rattle.std.specs.Prelude.{◌≡◌, ℕ, ◌^◌, ◌<◌, ◌≤◌, true,
 use Rattle.format.specs.Elements.{all_bytes, Reads}
 use Rattle.trust.specs.Chains.{Certificate}
 use Rattle.element.specs.Limits.{deepest, longest}
-use Rattle.certificate.specs.declared.Certificate.{Certificate as Held}
+use Rattle.certificate.specs.declared.Certificate.{Certificate as CertificateFields}
 use Rattle.certificate.specs.Numbers.{number_bytes, bytes_value}
 use Rattle.certificate.specs.Permits.{permit_row, permit_bytes, certificate_of, InRange, Decoded}
 
@@ -27,4 +27,4 @@ PermitReads = (c : Certificate) → InRange c → Reads deepest longest (permit_
 
 -- decoding the bytes of a certificate gives that certificate
 abbrev pub DecodesBack : Type 0
-DecodesBack = (h : Held) (answer : Option Held) → InRange (certificate_of h) → Decoded (permit_bytes (certificate_of h)) answer → answer ≡ Some h
+DecodesBack = (h : CertificateFields) (answer : Option CertificateFields) → InRange (certificate_of h) → Decoded (permit_bytes (certificate_of h)) answer → answer ≡ Some h

@@ -26,7 +26,7 @@ pub struct Certificate {
     pub not_after: u32,
     // Whether its subject may issue permits.
     pub may_issue: bool,
-    // How many permits may stand between this one and the first of a chain.
+    // How many certificates may stand between this one and the first of a chain.
     pub path_len: u32,
 }
 
@@ -37,7 +37,7 @@ impl Certificate {
 
 // The fields of a permit, by their tags and in their order; each is a primitive element. Numbers and days take 1 to 4 bytes, the higher first, in the fewest bytes.
 #[derive(Clone, Copy, PartialEq, Eq, Debug)]
-pub enum Tag {
+pub enum Field {
     Subject = 1,
     Issuer = 2,
     // A day.
@@ -46,16 +46,16 @@ pub enum Tag {
     NotAfter = 4,
     // One byte: 1 for yes, 0 for no.
     MayIssue = 5,
-    // A number of permits.
+    // A number of certificates.
     PathLen = 6,
 }
 
-impl From<Tag> for u8 {
-    ghost from_gives = { λ tag byte. byte ≡ tag_of tag };
+impl From<Field> for u8 {
+    ghost from_gives = { λ field tag. tag ≡ tag_of field };
 
-    // The byte of a tag.
-    fn from(tag: Tag) -> u8 {
-        tag as u8
+    // The tag of a field.
+    fn from(field: Field) -> u8 {
+        field as u8
     }
 }
 

@@ -4,7 +4,7 @@ ghost use Rattle.certificate.specs.inner.Fields.{NextField, AllFields, flag_of};
 ghost use Rattle.certificate.specs.Permits.{Decoded, tag_of};
 
 use crate::numbering::read_number;
-use crate::{Certificate, Tag};
+use crate::{Certificate, Field};
 use element::Cursor;
 
 // The certificate whose permit the bytes are; None if they are no permit, or a permit and more. The format is in docs/FORMAT.md, "Permits".
@@ -24,12 +24,12 @@ fn fields(start: Cursor<'_>) -> Option<Certificate>
     ensures { AllFields start.entry result }
 {
     let mut fields = start;
-    let subject = number(&mut fields, Tag::Subject)?;
-    let issuer = number(&mut fields, Tag::Issuer)?;
-    let not_before = number(&mut fields, Tag::NotBefore)?;
-    let not_after = number(&mut fields, Tag::NotAfter)?;
-    let may_issue = flag(number(&mut fields, Tag::MayIssue)?)?;
-    let path_len = number(&mut fields, Tag::PathLen)?;
+    let subject = number(&mut fields, Field::Subject)?;
+    let issuer = number(&mut fields, Field::Issuer)?;
+    let not_before = number(&mut fields, Field::NotBefore)?;
+    let not_after = number(&mut fields, Field::NotAfter)?;
+    let may_issue = flag(number(&mut fields, Field::MayIssue)?)?;
+    let path_len = number(&mut fields, Field::PathLen)?;
     if !fields.is_empty() {
         return None;
     }
@@ -43,16 +43,16 @@ fn fields(start: Cursor<'_>) -> Option<Certificate>
     })
 }
 
-// The number in the next field; None if it has another tag, no number, or isn't there.
+// The number in the next field; None if it is another one, has no number, or isn't there.
 #[tactic(auto, using(crate::proofs::Digits::few_bytes, crate::proofs::Tails::field_read))]
-fn number(fields: &mut Cursor<'_>, tag: Tag) -> Option<u32>
-    ensures { NextField fields.old (tag_of tag) result fields.new }
+fn number(fields: &mut Cursor<'_>, field: Field) -> Option<u32>
+    ensures { NextField fields.old (tag_of field) result fields.new }
 {
-    let field = fields.next()?;
-    if field.tag != u8::from(tag) {
+    let first = fields.next()?;
+    if first.tag != u8::from(field) {
         return None;
     }
-    read_number(field.contents)
+    read_number(first.contents)
 }
 
 // What a flag says: 0 no, 1 yes; None if it is neither.

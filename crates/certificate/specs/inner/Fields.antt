@@ -6,7 +6,7 @@ use Rattle.element.specs.declared.walking.Cursor.{Cursor}
 use Rattle.element.specs.Cursors.{ahead}
 use Rattle.element.specs.declared.writing.WriteError.{WriteError}
 use Rattle.element.specs.declared.writing.WriteError.TheVariants.{Tag, Length, Contents, Memory}
-use Rattle.certificate.specs.declared.Certificate.{Certificate as Held}
+use Rattle.certificate.specs.declared.Certificate.{Certificate as CertificateFields}
 use Rattle.certificate.specs.Numbers.{number_bytes}
 use Rattle.certificate.specs.Permits.{fields_row, InRange, certificate_of}
 
@@ -30,7 +30,7 @@ NextField c tag (Some n) after = SaysField c tag n after
 NextField c tag None after = (n : ℕ) (behind : List ℕ) → n < 2 ^ 32 → ahead c ≢ framed tag (number_bytes n) ++ behind
 
 -- the certificate whose fields are all that is ahead; none exactly if there is no such certificate
-abbrev pub AllFields : Cursor → Option Held → Type 0
+abbrev pub AllFields : Cursor → Option CertificateFields → Type 0
 AllFields s (Some h) = InRange (certificate_of h) × (written (fields_row (certificate_of h)) ≡ ahead s)
 AllFields s None = (c : Certificate) → InRange c → written (fields_row c) ≢ ahead s
 

@@ -1,5 +1,5 @@
 use Rattle.std.proofs.Common.{sym, ◌∙◌, arith}
-use Rattle.certificate.proofs.Tails.{fields_are, left_start, left_none, left_1, left_2, left_3, left_4, left_5, no_mark, more_behind, six_fields}
+use Rattle.certificate.proofs.Tails.{fields_are, left_start, left_none, left_1, left_2, left_3, left_4, left_5, no_flag, more_behind, six_fields}
 use Rattle.certificate.proofs.reading.fields.Goals as goal
 
 pub returns-in_err-subject : goal.returns-in_err-subject
@@ -18,7 +18,7 @@ pub returns-in_err-number : goal.returns-in_err-number
 returns-in_err-number c = rw c.from_residual-in_err-number.ensures (left_none 4 (omega arith) (left_4 c.in_ok-subject.ensures c.in_ok-issuer.ensures c.in_ok-not_before.ensures c.in_ok-not_after.ensures) c.in_err-number.ensures)
 
 pub returns-in_err-may_issue : goal.returns-in_err-may_issue
-returns-in_err-may_issue c = rw c.from_residual-in_err-may_issue.ensures (no_mark c.in_ok-subject.ensures c.in_ok-issuer.ensures c.in_ok-not_before.ensures c.in_ok-not_after.ensures c.in_ok-number.ensures c.in_err-may_issue.ensures)
+returns-in_err-may_issue c = rw c.from_residual-in_err-may_issue.ensures (no_flag c.in_ok-subject.ensures c.in_ok-issuer.ensures c.in_ok-not_before.ensures c.in_ok-not_after.ensures c.in_ok-number.ensures c.in_err-may_issue.ensures)
 
 pub returns-in_err-path_len : goal.returns-in_err-path_len
 returns-in_err-path_len c = rw c.from_residual-in_err-path_len.ensures (left_none 5 (omega arith) (left_5 c.in_ok-subject.ensures c.in_ok-issuer.ensures c.in_ok-not_before.ensures c.in_ok-not_after.ensures c.in_ok-number.ensures) c.in_err-path_len.ensures)

@@ -3,5 +3,5 @@ use Rattle.certificate.specs.Permits.{tag_of}
 use Rattle.certificate.proofs.Tails.{field_other}
 use Rattle.certificate.proofs.reading.number.Goals as goal
 
-pub returns-then-field-from : goal.returns-then-field-from
-returns-then-field-from c = λ n behind h e. field_other _ _ _ c.in_ok-field.ensures.steps (tag_of c.args.tag) (λ k. c.if-field-from.true (k ∙ sym c.from.ensures)) n behind e
+pub returns-then-first-from : goal.returns-then-first-from
+returns-then-first-from c = λ n behind h e. field_other _ _ _ c.in_ok-first.ensures.steps (tag_of c.args.field) (λ k. c.if-first-from.true (k ∙ sym c.from.ensures)) n behind e
