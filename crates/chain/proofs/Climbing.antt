@@ -79,5 +79,5 @@ module _ (p : Pool) (day : ℕ) (xs : List ℕ) where
 
   -- at its last certificate the row is a chain exactly if that one is a trust anchor
   pub at_last : (first k at : ℕ) (r : Bool) → get_or xs 0 0 ≡ first → holds (p.certificate first) day ≡ true → Climbed p day xs k at → k + 1 ≡ length xs → r ≡ p.anchor at → MatchBool r (Chain p day first xs) (Chain p day first xs → ⊥)
-  at_last first k at true b v c l e = record { begins = b; known = λ i h. c.known i (omega arith); valid = v; climb = is_last k at c l ∙ sym e }
+  at_last first k at true b v c l e = record { begins = b; known = λ i h. c.known i (omega arith); holding = v; climb = is_last k at c l ∙ sym e }
   at_last first k at false b v c l e = λ h. both_ways _ (is_last k at c l ∙ sym e) h.climb

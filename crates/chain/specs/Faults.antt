@@ -23,7 +23,7 @@ pub data BadMarks (i : Input) : Type 0 where
 abbrev pub FaultyCertificate : Input → (a : ℕ) → Type 0
 FaultyCertificate i a = (length i.certificates < 6 * a + 6) ⊎ (1 < slice_index i.certificates (6 * a + 4))
 
--- the place of reason 1: 0 if there is no certificate, `most` if there are more, else the first bad certificate, or their count if all are good and numbers are left over
+-- the place of reason 1: 0 if there is no certificate, `most` if there are more, else the first faulty certificate, or their count if none is and numbers are left over
 pub data CertificatesFault (i : Input) (at : ℕ) : Type 0 where
   no_certificate : i.count ≡ 0 → at ≡ 0 → CertificatesFault i at
   too_many : most < i.count → at ≡ most → CertificatesFault i at

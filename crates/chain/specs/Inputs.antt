@@ -14,13 +14,13 @@ pub record Input : Type 0 where
   pub signatures : List ℕ
   pub anchors : List ℕ
 
--- of the count and the three lists
-abbrev pub input : (count : ℕ) → (certificates signatures anchors : List ℕ) → Input
-input n cs ss ts = record { count = n; certificates = cs; signatures = ss; anchors = ts }
+-- the input of a count and three lists
+abbrev pub raw_input : (count : ℕ) → (certificates signatures anchors : List ℕ) → Input
+raw_input n cs ss ts = record { count = n; certificates = cs; signatures = ss; anchors = ts }
 
 -- the lists that a `PoolInput` refers to
 abbrev pub input_of : PoolInput → Input
-input_of p = input p.count p.certificates.now p.signatures.now p.anchors.now
+input_of p = raw_input p.count p.certificates.now p.signatures.now p.anchors.now
 
 -- a certificate's six numbers, in this order: subject, issuer, first day, last day, 1 if it may issue, path length
 abbrev pub certificate_at : List ℕ → ℕ → Certificate

@@ -1,4 +1,4 @@
-// Whether the numbers and the marks of a pool are well-formed.
+// Whether the numbers and the marks of a pool are as many as they must be, and each flag and mark is 0 or 1.
 ghost use Rattle.std.specs.Prelude.{◌≡◌, ◌*◌, ◌==◌, [], length, max, slice_index_or};
 ghost use Rattle.std.specs.List.{fold};
 ghost use Rattle.chain.specs.Inputs.{input_of};

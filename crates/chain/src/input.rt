@@ -5,7 +5,7 @@ ghost use Rattle.chain.specs.Rejections.{rejection_number};
 // The most certificates in a pool.
 pub const MOST: usize = 200;
 
-// How many numbers a certificate has, and the place of each: the order of the C interface.
+// How many numbers a certificate has, and the place of each: the order of a permit's fields.
 pub(crate) const NUMBERS: usize = 6;
 
 pub(crate) const SUBJECT: usize = 0;

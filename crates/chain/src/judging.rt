@@ -27,7 +27,7 @@ pub fn issues(view: &PoolView, a: usize, b: usize) -> bool
     }
 }
 
-// Whether certificate b is an issuer of a, allows k certificates between itself and the first of a chain, and holds on the day.
+// Whether certificates a and b are there, and b is an issuer of a, allows k certificates between itself and the first of a chain, and holds on the day.
 #[tactic(auto, unfolding(trust::specs::Chains::issues, trust::specs::Chains::follows))]
 pub fn follows(view: &PoolView, day: u64, k: usize, a: usize, b: usize) -> bool
     ensures { result ≡ follows (view_pool view.now) day k a b }
@@ -38,7 +38,7 @@ pub fn follows(view: &PoolView, day: u64, k: usize, a: usize, b: usize) -> bool
     issues(view, b, a) && k <= above.path_len() as usize && above.holds(day)
 }
 
-// Whether a list of certificates is a chain from the first one up to a trust anchor on a day.
+// Whether a list of certificates is a chain from certificate `first` up to a trust anchor on a day.
 pub fn judge_chain(view: &PoolView, day: u64, first: u64, certificates: &[u64]) -> bool
     ensures { MatchBool result (Chain (view_pool view.now) day first certificates.now) (Chain (view_pool view.now) day first certificates.now → ⊥) }
 {

@@ -18,7 +18,7 @@ fn first_bad(marks: &[u8]) -> usize
 }
 
 impl PoolInput<'_> {
-    // The place of `Rejection::Certificates`: the first certificate at fault, counted from 0, or `MOST` if there are more.
+    // The place of `Rejection::Certificates`: the first certificate at fault, counted from 0; `MOST` if there are more; their count if only numbers are left over.
     pub fn certificates_place(&self) -> u64
         ensures { CertificatesPlace (input_of self.now) result }
     {

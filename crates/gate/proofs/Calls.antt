@@ -19,12 +19,12 @@ use Rattle.chain.specs.Rejections.{rejection_number}
 use Rattle.chain.specs.declared.input.Rejection.{Rejection}
 use Rattle.chain.specs.declared.input.Rejection.TheVariants.{Certificates, Marks, Unknown, Buffer}
 use Rattle.shortest.specs.Answers.{Answers, InBuffer}
-use Rattle.shortest.specs.Promise.{Grows}
+use Rattle.shortest.specs.Laws.{Grows}
 use Rattle.shortest.proofs.Growth.{more_answers}
 use Rattle.gate.specs.declared.SpanNumbers.{SpanNumbers}
 use Rattle.gate.specs.declared.ChainNumbers.{ChainNumbers}
 use Rattle.gate.specs.Numbers.{verdict_number, span_numbers, answer_numbers, JudgeCall, PieceCall, ChainCall}
-use Rattle.gate.specs.Promise.{JudgeTells, PieceTells, ChainTells, ChainKept, Gate}
+use Rattle.gate.specs.Promise.{JudgeTells, PieceTells, ChainTells, MoreCalls, Gate}
 
 -- bytes that read as a row are malformed nowhere
 never_ill : (d m : ℕ) (b : List ℕ) (row : Row) (k : ℕ) → Reads d m b row → IllAt d m b k → ⊥
@@ -54,7 +54,7 @@ judge_tells : (bytes : List ℕ) (answer : ℕ) → JudgeCall bytes answer → J
 judge_tells bytes answer call = subst (JudgeTells bytes) (sym call.2) (verdict_tells bytes call.0 call.1)
 
 span_tells : (bytes path : List ℕ) (o : Option Span) → Located bytes path o → PieceTells bytes path (span_numbers o)
-span_tells bytes path None h = record { none = (λ e. h, λ n. refl); some = λ l. absurd (omega arith); within = omega arith }
+span_tells bytes path None h = record { none = (λ e. h, λ n. refl); nowhere = λ e. refl; some = λ l. absurd (omega arith); within = omega arith }
 span_tells bytes path (Some s) h =
     let whole : List ℕ = h.0 in
     let leads = h.1 in
@@ -62,6 +62,7 @@ span_tells bytes path (Some s) h =
     let size : length whole ≡ length (written (at_path leads.row path)) = ap length leads.is in
     record {
       none = (λ e. absurd (omega (arith, h.2)), λ n. absurd (leads.some (n leads.row leads.reads)));
+      nowhere = λ e. absurd (omega (arith, h.2));
       some = λ l. subst (Leads bytes path s.at) (leads.part ∙ ap (λ n. take n (drop s.at bytes)) (sym h.2)) leads;
       within = omega (arith, ap length leads.part, length-take (length whole) (drop s.at bytes), length-drop s.at bytes, h.2, some, size);
     }
@@ -84,11 +85,11 @@ module _ (i : Input) (day first : ℕ) (old new : List ℕ) where
   answer_tells : (a : Result (Option ℕ) Rejection) → Answers i day first old new a → ChainTells i day first old new (answer_numbers a)
   answer_tells (Ok (Some k)) h =
       let some = chain_some (pool i) day first k old new h.1 in
-      record { none = λ e z. absurd (omega arith); some = λ e l. h.1; taken = (λ e. h.0, λ n. refl); rejected = λ l. absurd (omega arith); unchanged = λ z. absurd (omega arith) }
-  answer_tells (Ok None) h = record { none = λ e z. h.1.1; some = λ e l. absurd (omega arith); taken = (λ e. h.0, λ n. refl); rejected = λ l. absurd (omega arith); unchanged = λ z. h.1.0 }
+      record { none = λ e z. absurd (omega arith); some = λ e l. h.1; accepted = (λ e. h.0, λ n. refl); rejected = λ l. absurd (omega arith); unchanged = λ z. absurd (omega arith) }
+  answer_tells (Ok None) h = record { none = λ e z. h.1.1; some = λ e l. absurd (omega arith); accepted = (λ e. h.0, λ n. refl); rejected = λ l. absurd (omega arith); unchanged = λ z. h.1.0 }
   answer_tells (Err r) h =
       let some = number_some r in
-      record { none = λ e z. absurd (omega arith); some = λ e l. absurd (omega arith); taken = (λ e. absurd (omega arith), λ n. let other : Some r ≡ None = sym h.0 ∙ n in cc); rejected = λ l. (r, h.0, refl, refl); unchanged = λ z. h.1 }
+      record { none = λ e z. absurd (omega arith); some = λ e l. absurd (omega arith); accepted = (λ e. absurd (omega arith), λ n. let other : Some r ≡ None = sym h.0 ∙ n in cc); rejected = λ l. (r, h.0, refl, refl); unchanged = λ z. h.1 }
 
   chain_tells : (answer : ChainNumbers) → ChainCall i day first old new answer → ChainTells i day first old new answer
   chain_tells answer call = subst (ChainTells i day first old new) (sym call.2) (answer_tells call.0 call.1)
@@ -114,12 +115,12 @@ call_rejection answer a e = ap (λ (x : ChainNumbers). x.rejection) e
 call_len : (answer : ChainNumbers) (a : Result (Option ℕ) Rejection) → answer ≡ answer_numbers a → answer.len ≡ (answer_numbers a).len
 call_len answer a e = ap (λ (x : ChainNumbers). x.len) e
 
-chain_kept : ChainKept
-chain_kept i j day first old new before after answer other g a b well some rejected =
+more_calls : MoreCalls
+more_calls i j day first old new before after answer other g a b well some rejected =
     let lens = call_len answer a.0 a.2 in
     let other_lens = call_len other b.0 b.2 in
     let kept = answer_kept i day first old new j before after g a.0 b.0 a.1 b.1 (sym (call_rejection answer a.0 a.2) ∙ well) (omega arith) (sym (call_rejection other b.0 b.2) ∙ rejected) in
     (omega (arith, kept.0), omega (arith, kept.1))
 
 pub gate : Gate
-gate = record { judge = judge_tells; piece = piece_tells; chain = chain_tells; kept = chain_kept }
+gate = record { judge = judge_tells; piece = piece_tells; chain = chain_tells; more = more_calls }

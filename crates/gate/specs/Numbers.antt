@@ -17,7 +17,7 @@ abbrev pub verdict_number : Verdict → ℕ
 verdict_number Well = 0
 verdict_number (Ill at) = at + 1
 
--- place and size of an element; 0 and 0 if there is none
+-- place of an element and how many bytes it has; 0 and 0 if there is none
 abbrev pub span_numbers : Option Span → SpanNumbers
 span_numbers (Some s) = record { at = s.at; len = s.len }
 span_numbers None = record { at = 0; len = 0 }

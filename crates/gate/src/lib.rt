@@ -1,7 +1,7 @@
 // The library for a gate: what its C program calls (include/permit.h). None of the functions allocates or keeps anything from call to call.
 #![tactic(auto)]
 
-ghost use Rattle.chain.specs.Inputs.{input as pool_input};
+ghost use Rattle.chain.specs.Inputs.{raw_input};
 ghost use Rattle.gate.specs.Numbers.{JudgeCall, PieceCall, ChainCall};
 ghost use Rattle.gate.specs.Promise.{Gate};
 
@@ -9,7 +9,7 @@ use chain::PoolInput;
 use element::{Verdict, locate};
 use shortest::find_chain;
 
-// A part of the bytes, as C reads it. C has no option: a part of 0 bytes stands for no element.
+// A part of the bytes, as C reads it. C has no option: `at` 0 with `len` 0 stands for no element.
 #[repr(C)]
 #[derive(Clone, Copy)]
 pub struct SpanNumbers {
@@ -40,7 +40,7 @@ pub extern "C" fn judge(bytes: &[u8]) -> u64
     }
 }
 
-// The element that a path leads to, tag and length included; a part of 0 bytes if the bytes are malformed or the path leads to nothing.
+// The element that a path leads to, tag and length included; `at` 0 with `len` 0 if the bytes are malformed or the path leads to nothing.
 #[unsafe(no_mangle)]
 pub extern "C" fn piece(bytes: &[u8], path: &[u64]) -> SpanNumbers
     ensures { PieceCall bytes.now path.now result }
@@ -54,8 +54,8 @@ pub extern "C" fn piece(bytes: &[u8], path: &[u64]) -> SpanNumbers
     }
 }
 
-// The shortest chain from certificate `first` up to a trust anchor on a day, among n certificates. It is written to the front of the output buffer;
-// where no chain is answered the buffer is unchanged.
+// A shortest chain from certificate `first` up to a trust anchor on a day, among n certificates. It is written to the front of the output buffer, the rest
+// of which is unchanged; where no chain is answered all of it is.
 #[unsafe(no_mangle)]
 pub extern "C" fn chain<'a>(
     n: u64,
@@ -66,7 +66,7 @@ pub extern "C" fn chain<'a>(
     first: u64,
     out: &mut [u16],
 ) -> ChainNumbers
-    ensures { ChainCall (pool_input n certificates.now signatures.now anchors.now) day first out.old out.new result }
+    ensures { ChainCall (raw_input n certificates.now signatures.now anchors.now) day first out.old out.new result }
 {
     let input = PoolInput {
         count: n,

@@ -23,8 +23,8 @@ blank_zero n a = same_at n a 0
 
 pub started : (p : Pool) (day first n : ℕ) (far from order : List ℕ) (size over : ℕ) → far ≡ set (replicate n 0) first 1 → from ≡ replicate n 0 → order ≡ set (replicate n 0) 0 first → size ≡ 1 → over ≡ 0 → first < p.count → holds (p.certificate first) day ≡ true → p.count ≤ n → Layers p day first far from order size over 0
 unfolding blank
-started p day first n far from order size over e f o s v known valid few =
-    rw (e, f, o, s, v) (begun p day first (blank n) (blank n) (blank n) known (omega (arith, blank_long n)) (omega (arith, blank_long n)) valid (omega (arith, blank_long n)) (blank_zero n) (blank_zero n))
+started p day first n far from order size over e f o s v known holding few =
+    rw (e, f, o, s, v) (begun p day first (blank n) (blank n) (blank n) known (omega (arith, blank_long n)) (omega (arith, blank_long n)) holding (omega (arith, blank_long n)) (blank_zero n) (blank_zero n))
 
 -- a trust anchor that is next in the queue is the top of a shortest chain
 pub topped : (p : Pool) (day first : ℕ) (far from order : List ℕ) (size over x : ℕ) → Layers p day first far from order size over 0 → over < size → x ≡ get_or order over 0 → p.anchor x ≡ true → (k : ℕ) × Top p day first far from k x

@@ -8,7 +8,7 @@ use Rattle.chain.specs.Rejections.{pool_rejection}
 use Rattle.chain.specs.declared.input.Rejection.{Rejection}
 use Rattle.chain.specs.declared.input.Rejection.TheVariants.{Certificates, Marks, Unknown, Buffer}
 use Rattle.chain.proofs.Faults as pool
-use Rattle.shortest.specs.Answers.{rejection}
+use Rattle.shortest.specs.Answers.{question_rejection}
 use Rattle.shortest.specs.Places.{RejectionPlace}
 use Rattle.shortest.specs.Faults.{UnknownCertificate, BadBuffer, Applies, FaultAt, Rejections}
 
@@ -24,7 +24,7 @@ module _ (i : Input) (first size : ℕ) where
   place Buffer at a h = (h, λ e. a.3 (sym h ∙ e))
 
   -- the law, from the reason that applies
-  rejected : (why : Rejection) → rejection i first size ≡ Some why → Applies why i first size → ((other : Rejection) → Applies other i first size → other ≡ why) → (Accepted → ⊥) → Rejections i first size
+  rejected : (why : Rejection) → question_rejection i first size ≡ Some why → Applies why i first size → ((other : Rejection) → Applies other i first size → other ≡ why) → (Accepted → ⊥) → Rejections i first size
   rejected why is a only not = record {
     reason = λ other. (λ e. applies other (cc), λ b. is ∙ ap (λ r. Some r) (sym (only other b)));
     none = (λ e. absurd (cc), λ b. absurd (not b));
@@ -58,7 +58,7 @@ module _ (i : Input) (first size : ℕ) where
   only_buffer p Unknown a = absurd (p.2 a.2)
   only_buffer p Buffer a = refl
 
-  accepted : rejection i first size ≡ None → Accepted → Rejections i first size
+  accepted : question_rejection i first size ≡ None → Accepted → Rejections i first size
   accepted is a = record {
     reason = λ why. (λ e. absurd (cc), λ b. absurd (never why b));
     none = (λ e. a, λ b. is);
@@ -75,7 +75,7 @@ module _ (i : Input) (first size : ℕ) where
   asked : pool_rejection i ≡ None → (BadCertificates i → ⊥) × (BadMarks i → ⊥) → Rejections i first size
   asked e p = ⊎_elim there (λ l. let a : Applies Unknown i first size = (p.0, p.1, l) in rejected Unknown (is ∙ cond-false _ _ _ (le-ltb first i.count l)) a (only_unknown a) (λ b. b.2 l)) (cases_lt first i.count)
     where
-      is : rejection i first size ≡ cond (ltb first i.count) (cond (eqb size i.count) None (Some Buffer)) (Some Unknown)
+      is : question_rejection i first size ≡ cond (ltb first i.count) (cond (eqb size i.count) None (Some Buffer)) (Some Unknown)
       is = ap (λ o. option_or o (cond (ltb first i.count) (cond (eqb size i.count) None (Some Buffer)) (Some Unknown))) e
 
       there : first < i.count → Rejections i first size

@@ -10,17 +10,8 @@ use Rattle.trust.proofs.Means.{more_keeps}
 use Rattle.trust.proofs.Shortest.{chain_or_none}
 use Rattle.chain.specs.Inputs.{Input, certificate_at, pool}
 use Rattle.chain.specs.declared.input.Rejection.{Rejection}
-use Rattle.shortest.specs.Promise.{Promise, Grows, MoreAnswers}
-
-pub promise : Promise
-promise = record {
-  one_reading = one_reading deepest longest;
-  same_front = same_element deepest longest;
-  written_once = written_once deepest longest (omega arith);
-  part_of_bytes = part_of_bytes;
-  chain_or_none = chain_or_none;
-  more_keeps = more_keeps;
-}
+use Rattle.shortest.specs.Laws.{Grows, MoreAnswers}
+use Rattle.shortest.specs.Promise.{Promise}
 
 same_certificate : (cs ds : List ℕ) (n a : ℕ) → a < n → ((i : ℕ) → i < 6 * n → get_or ds i 0 ≡ get_or cs i 0) → certificate_at ds a ≡ certificate_at cs a
 same_certificate cs ds n a h e =
@@ -57,3 +48,14 @@ more_answers i j day first old new before after k (Ok None) g a b e =
     let c = more_keeps (pool i) (pool j) day first (take k new) (extends i j g) a.1.shortest.chain in
     absurd (b.1.1 (take k new) c)
 more_answers i j day first old new before after k (Err r) g a b e = absurd (some_none (sym b.0 ∙ e))
+
+pub promise : Promise
+promise = record {
+  one_reading = one_reading deepest longest;
+  same_front = same_element deepest longest;
+  written_once = written_once deepest longest (omega arith);
+  part_of_bytes = part_of_bytes;
+  chain_or_none = chain_or_none;
+  more_keeps = more_keeps;
+  more_answers = more_answers;
+}

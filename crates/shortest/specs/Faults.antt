@@ -1,10 +1,10 @@
--- Why a question is rejected and where, in plain words; `rejection_stands` proves that `rejection` and `RejectionPlace` say this.
+-- Why a question is rejected and where, in plain words; `rejection_stands` proves that `question_rejection` and `RejectionPlace` say this.
 use Rattle.std.specs.Prelude.{◌≡◌, ℕ, ◌≤◌, ◌≢◌, ◌↔◌, Some, None}
 use Rattle.chain.specs.Inputs.{Input}
 use Rattle.chain.specs.Faults.{BadCertificates, BadMarks, CertificatesFault, MarksFault}
 use Rattle.chain.specs.declared.input.Rejection.{Rejection}
 use Rattle.chain.specs.declared.input.Rejection.TheVariants.{Certificates, Marks, Unknown, Buffer}
-use Rattle.shortest.specs.Answers.{rejection}
+use Rattle.shortest.specs.Answers.{question_rejection}
 use Rattle.shortest.specs.Places.{RejectionPlace}
 
 -- reason 3: the certificate asked about is not there
@@ -31,6 +31,6 @@ FaultAt Buffer i first size at = (at ≡ size) × BadBuffer i at
 
 -- a question is rejected for the first reason that applies and at its fault, and not at all exactly if no reason applies
 pub record Rejections (i : Input) (first size : ℕ) : Type 0 where
-  pub reason : (why : Rejection) → (rejection i first size ≡ Some why) ↔ Applies why i first size
-  pub none : (rejection i first size ≡ None) ↔ ((BadCertificates i → ⊥) × (BadMarks i → ⊥) × (UnknownCertificate i first → ⊥) × (BadBuffer i size → ⊥))
-  pub place : (why : Rejection) (at : ℕ) → rejection i first size ≡ Some why → RejectionPlace why i first size at → FaultAt why i first size at
+  pub reason : (why : Rejection) → (question_rejection i first size ≡ Some why) ↔ Applies why i first size
+  pub none : (question_rejection i first size ≡ None) ↔ ((BadCertificates i → ⊥) × (BadMarks i → ⊥) × (UnknownCertificate i first → ⊥) × (BadBuffer i size → ⊥))
+  pub place : (why : Rejection) (at : ℕ) → question_rejection i first size ≡ Some why → RejectionPlace why i first size at → FaultAt why i first size at

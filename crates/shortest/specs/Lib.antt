@@ -1,5 +1,6 @@
 pub mod Answers
 pub mod Faults
+pub mod Laws
 pub mod Places
 pub mod Promise
 pub mod inner

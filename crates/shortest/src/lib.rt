@@ -1,4 +1,4 @@
-// The shortest chain from a certificate up to a trust anchor, or that there is none.
+// A shortest chain from a certificate up to a trust anchor, or that there is none.
 #![tactic(auto)]
 
 ghost use Rattle.std.specs.Prelude.{◌≡◌, length, MatchOption};
@@ -38,7 +38,7 @@ fn find(asked: &Query, out: &mut [u16]) -> Option<usize>
 }
 
 // Searches for a shortest chain from certificate `first` up to a trust anchor; `day` is counted as the certificates' days are. `out` has one place for each certificate.
-// On `Ok(Some(n))` the first n places of `out` have the chain's certificates, `first` first, and the rest is unchanged; without a chain all of `out` is unchanged.
+// On `Ok(Some(n))` the first n places of `out` have the chain's certificates, `first` first, and the rest is unchanged; on `Ok(None)` and on an error all of `out` is unchanged. Of several shortest chains any may be answered.
 // Errors: the first `Rejection` that applies, at its `rejection_place`.
 pub fn find_chain(
     input: PoolInput,

@@ -15,7 +15,7 @@ never p day far limit h m a (b ∷ xs) w some early l =
     let e : get_or far a 0 ≡ j + 1 = omega arith in
     let q : j ≤ m = omega arith in
     let u = held p day (m + 1) b xs w.2 in
-    let r = h.closed j a b w.0.known u.known e (omega arith) (follow_from p day j m a b u.valid w.1 q) in
+    let r = h.closed j a b w.0.known u.known e (omega arith) (follow_from p day j m a b u.holding w.1 q) in
     never p day far limit h (m + 1) b xs w.2 r.0 (omega (arith, r.1)) (omega arith)
 
 -- so a way is at least as long as the limit
@@ -28,7 +28,7 @@ no_chain p day first far from t h xs c = let w = whole p day first xs c in omega
 
 -- a certificate that does not hold on the day begins no chain
 pub not_held : (p : Pool) (day first : ℕ) → holds (p.certificate first) day ≡ false → (xs : List ℕ) → Chain p day first xs → ⊥
-not_held p day first e xs c = let w = whole p day first xs c in both_ways _ e (held p day 0 first w.above w.way).valid
+not_held p day first e xs c = let w = whole p day first xs c in both_ways _ e (held p day 0 first w.above w.way).holding
 
 module _ (p : Pool) (day first : ℕ) (far from : List ℕ) (k a : ℕ) (t : Top p day first far from k a) where
   last : down from a 0 ≡ a
@@ -63,18 +63,18 @@ module _ (p : Pool) (day first : ℕ) (far from : List ℕ) (k a : ℕ) (t : Top
       begins : get_or xs 0 0 ≡ first
       begins = each 0 (omega arith) ∙ t.tree.only (down from a (k - 0)) (low (k - 0)) (layer 0 (k - 0) (omega arith))
 
-      valid : (i : ℕ) → i < length xs → holds (p.certificate (get_or xs i 0)) day ≡ true
-      valid zero l = subst (λ x. holds (p.certificate x) day ≡ true) (sym begins) t.tree.valid
-      valid (suc i) l = subst (λ j. holds (p.certificate (get_or xs j 0)) day ≡ true) (add-one i) (follow_parts p day i (get_or xs i 0) (get_or xs (i + 1) 0) (pair i (omega arith))).0
+      holding : (i : ℕ) → i < length xs → holds (p.certificate (get_or xs i 0)) day ≡ true
+      holding zero l = subst (λ x. holds (p.certificate x) day ≡ true) (sym begins) t.tree.holding
+      holding (suc i) l = subst (λ j. holds (p.certificate (get_or xs j 0)) day ≡ true) (add-one i) (follow_parts p day i (get_or xs i 0) (get_or xs (i + 1) 0) (pair i (omega arith))).0
 
       links : Links p day first xs
       links = record {
         some = omega arith;
         begins = begins;
-        valid = valid;
+        holding = holding;
         known = λ i l. subst (λ x. x < p.count) (sym (each i (omega arith))) (low (k - i));
         issued = λ i l. (follow_parts p day i (get_or xs i 0) (get_or xs (i + 1) 0) (pair i l)).1.issued;
-        room = λ i l. (follow_parts p day i (get_or xs i 0) (get_or xs (i + 1) 0) (pair i l)).1.room;
+        allowed = λ i l. (follow_parts p day i (get_or xs i 0) (get_or xs (i + 1) 0) (pair i l)).1.allowed;
         anchored = λ i e. subst (λ x. p.anchor x ≡ true) (sym (each i (omega arith) ∙ ap (down from a) (omega arith) ∙ last)) t.anchored;
       }
 

@@ -18,7 +18,7 @@ set_at xs i v a l =
     (cases_eq a i)
 
 -- at the start only the certificate asked about is reached
-module _ (p : Pool) (day first : ℕ) (far from order : List ℕ) (known : first < p.count) (room : p.count ≤ length far) (order_room : p.count ≤ length order) where
+module _ (p : Pool) (day first : ℕ) (far from order : List ℕ) (known : first < p.count) (long : p.count ≤ length far) (order_long : p.count ≤ length order) where
   at_first : (a : ℕ) → SetAt far first 1 a
   at_first a = set_at far first 1 a (omega arith)
 
@@ -29,19 +29,19 @@ module _ (p : Pool) (day first : ℕ) (far from order : List ℕ) (known : first
   head_layer j l = ap (λ a. get_or (set far first 1) a 0) (head j l) ∙ get_or-set_same far first 1 0 (omega arith)
 
   pub begun : holds (p.certificate first) day ≡ true → p.count ≤ length from → ((a : ℕ) → get_or far a 0 ≡ 0) → ((a : ℕ) → get_or from a 0 ≡ 0) → Layers p day first (set far first 1) from (set order 0 first) 1 0 0
-  begun valid from_room none zeros = record {
+  begun holding from_long none zeros = record {
     tree = record {
       known = known;
-      valid = valid;
-      room = omega (arith, length-set far first 1);
-      from_room = from_room;
+      holding = holding;
+      long = omega (arith, length-set far first 1);
+      from_long = from_long;
       below = λ a. omega (arith, zeros a);
       start = get_or-set_same far first 1 0 (omega arith);
       only = λ a l e. ⊎_elim (λ w. w.0) (λ w. absurd (omega (arith, none a, w.1))) (at_first a);
       parent = λ m b l e. absurd (⊎_elim (λ w. omega (arith, w.1)) (λ w. omega (arith, none b, w.1)) (at_first b));
     };
     queue = record {
-      room = omega (arith, length-set order 0 first);
+      long = omega (arith, length-set order 0 first);
       few = omega arith;
       listed = λ j l. omega (arith, head j l);
       reached = λ j l. omega (arith, head_layer j l);
@@ -91,10 +91,10 @@ module _ (p : Pool) (day first : ℕ) (far from order : List ℕ) (size over k x
   -- y is reached
   module _ (ey : get_or far y 0 ≡ 0) (f : true ≡ follows p day k x y) where
     at : (a : ℕ) → SetAt far y (k + 2) a
-    at a = set_at far y (k + 2) a (omega (arith, h.tree.room))
+    at a = set_at far y (k + 2) a (omega (arith, h.tree.long))
 
     under : (a : ℕ) → SetAt from y x a
-    under a = set_at from y x a (omega (arith, h.tree.from_room))
+    under a = set_at from y x a (omega (arith, h.tree.from_long))
 
     -- certificates reached before keep their layers
     stays : (a m : ℕ) → get_or far a 0 ≡ m + 1 → get_or (set far y (k + 2)) a 0 ≡ m + 1
@@ -117,9 +117,9 @@ module _ (p : Pool) (day first : ℕ) (far from order : List ℕ) (size over k x
     tree : Tree p day first (set far y (k + 2)) (set from y x)
     tree = record {
       known = h.tree.known;
-      valid = h.tree.valid;
-      room = omega (arith, length-set far y (k + 2), h.tree.room);
-      from_room = omega (arith, length-set from y x, h.tree.from_room);
+      holding = h.tree.holding;
+      long = omega (arith, length-set far y (k + 2), h.tree.long);
+      from_long = omega (arith, length-set from y x, h.tree.from_long);
       below = λ a. ⊎_elim (λ w. omega (arith, w.1, h.queue.listed over has)) (λ w. omega (arith, w.1, h.tree.below a)) (under a);
       start = stays first 0 h.tree.start;
       only = λ a l e. ⊎_elim (λ w. absurd (omega (arith, w.1))) (λ w. h.tree.only a l (sym w.1 ∙ e)) (at a);
@@ -133,17 +133,17 @@ module _ (p : Pool) (day first : ℕ) (far from order : List ℕ) (size over k x
     same_layer j l = ap (λ a. get_or (set far y (k + 2)) a 0) (same j l) ∙ get_or-set_other far y (get_or order j 0) (k + 2) 0 (fresh p far order size h.queue y ey j l)
 
     last : (j : ℕ) → j ≡ size → get_or (set order size y) j 0 ≡ y
-    last j e = ap (λ i. get_or (set order size y) i 0) e ∙ get_or-set_same order size y 0 (omega (arith, fits p far order size h.queue y ly ey, h.queue.room))
+    last j e = ap (λ i. get_or (set order size y) i 0) e ∙ get_or-set_same order size y 0 (omega (arith, fits p far order size h.queue y ly ey, h.queue.long))
 
     last_layer : (j : ℕ) → j ≡ size → get_or (set far y (k + 2)) (get_or (set order size y) j 0) 0 ≡ k + 2
-    last_layer j e = ap (λ a. get_or (set far y (k + 2)) a 0) (last j e) ∙ get_or-set_same far y (k + 2) 0 (omega (arith, h.tree.room))
+    last_layer j e = ap (λ a. get_or (set far y (k + 2)) a 0) (last j e) ∙ get_or-set_same far y (k + 2) 0 (omega (arith, h.tree.long))
 
     place : (j : ℕ) → j < size + 1 → (j < size) ⊎ (j ≡ size)
     place j l = ⊎_elim inl (λ m. inr (omega arith)) (cases_lt j size)
 
     queue : Order p (set far y (k + 2)) (set order size y) (size + 1)
     queue = record {
-      room = omega (arith, length-set order size y, h.queue.room);
+      long = omega (arith, length-set order size y, h.queue.long);
       few = omega (arith, fits p far order size h.queue y ly ey);
       listed = λ j l. ⊎_elim (λ u. omega (arith, same j u, h.queue.listed j u)) (λ u. omega (arith, last j u)) (place j l);
       reached = λ j l. ⊎_elim (λ u. omega (arith, same_layer j u, h.queue.reached j u)) (λ u. omega (arith, last_layer j u)) (place j l);

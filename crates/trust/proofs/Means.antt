@@ -31,8 +31,8 @@ places p day k a (b ∷ xs) w = go (places p day (k + 1) b xs w.2)
         each (suc i) l = r.each i (omega arith)
 
         next : (i : ℕ) → suc i < length (a ∷ b ∷ xs) → Step p (k + i) (get_or (a ∷ b ∷ xs) i 0) (get_or (a ∷ b ∷ xs) (suc i) 0)
-        next zero l = record { issued = w.1.issued; room = omega arith }
-        next (suc i) l = record { issued = (r.next i (omega arith)).issued; room = omega (arith, (r.next i (omega arith)).room) }
+        next zero l = record { issued = w.1.issued; allowed = omega arith }
+        next (suc i) l = record { issued = (r.next i (omega arith)).issued; allowed = omega (arith, (r.next i (omega arith)).allowed) }
 
         last : (i : ℕ) → suc i ≡ length (a ∷ b ∷ xs) → p.anchor (get_or (a ∷ b ∷ xs) i 0) ≡ true
         last zero e = absurd (omega arith)
@@ -42,10 +42,10 @@ pub way : (p : Pool) (day k a : ℕ) (xs : List ℕ) → WayPlaces p day k (a �
 way p day k a [] r = (r.each 0 (omega arith), r.last 0 refl)
 way p day k a (b ∷ xs) r = (
   r.each 0 (omega arith),
-  record { issued = (r.next 0 (omega arith)).issued; room = omega (arith, (r.next 0 (omega arith)).room) },
+  record { issued = (r.next 0 (omega arith)).issued; allowed = omega (arith, (r.next 0 (omega arith)).allowed) },
   way p day (k + 1) b xs (record {
     each = λ i l. r.each (suc i) (omega arith);
-    next = λ i l. record { issued = (r.next (suc i) (omega arith)).issued; room = omega (arith, (r.next (suc i) (omega arith)).room) };
+    next = λ i l. record { issued = (r.next (suc i) (omega arith)).issued; allowed = omega (arith, (r.next (suc i) (omega arith)).allowed) };
     last = λ i e. r.last (suc i) (omega arith);
   }),
 )
@@ -55,9 +55,9 @@ links p day first xs c = subst (Links p day first) (sym w.split) (record {
   some = omega arith;
   begins = refl;
   known = λ i l. (r.each i l).known;
-  valid = λ i l. (r.each i l).valid;
+  holding = λ i l. (r.each i l).holding;
   issued = λ i l. rw add-one (r.next i (omega arith)).issued;
-  room = λ i l. rw add-one (omega (arith, (r.next i (omega arith)).room));
+  allowed = λ i l. rw add-one (omega (arith, (r.next i (omega arith)).allowed));
   anchored = λ i e. r.last i (omega arith);
 })
   where
@@ -71,8 +71,8 @@ pub linked : (p : Pool) (day first : ℕ) (xs : List ℕ) → Links p day first 
 linked p day first [] l = absurd (omega (arith, l.some))
 linked p day first (a ∷ xs) l =
     subst (λ x. Chain p day x (a ∷ xs)) l.begins (chain p day a xs (way p day 0 a xs (record {
-      each = λ i h. record { known = l.known i h; valid = l.valid i h };
-      next = λ i h. record { issued = rw add-one at (l.issued i (omega arith)); room = omega (arith, rw add-one at (l.room i (omega arith))) };
+      each = λ i h. record { known = l.known i h; holding = l.holding i h };
+      next = λ i h. record { issued = rw add-one at (l.issued i (omega arith)); allowed = omega (arith, rw add-one at (l.allowed i (omega arith))) };
       last = λ i e. l.anchored i (omega arith);
     })))
 
@@ -80,7 +80,7 @@ pub chain_means : ChainMeans
 chain_means p day first xs = (links p day first xs, linked p day first xs)
 
 stays : (p q : Pool) → Extends p q → (day a : ℕ) → Held p day a → Held q day a
-stays p q e day a h = record { known = omega (arith, h.known, e.counts); valid = subst (λ x. holds x day ≡ true) (sym (e.same a h.known)) h.valid }
+stays p q e day a h = record { known = omega (arith, h.known, e.counts); holding = subst (λ x. holds x day ≡ true) (sym (e.same a h.known)) h.holding }
 
 signs : (p q : Pool) → Extends p q → (a b : ℕ) → a < p.count → b < p.count → issues p b a ≡ true → issues q b a ≡ true
 unfolding issues
@@ -94,7 +94,7 @@ kept : (p q : Pool) → Extends p q → (day k a : ℕ) (xs : List ℕ) → Way 
 kept p q e day k a [] w = (stays p q e day a w.0, e.anchors a w.0.known w.1)
 kept p q e day k a (b ∷ xs) w =
     let u = held p day (k + 1) b xs w.2 in
-    (stays p q e day a w.0, record { issued = signs p q e a b w.0.known u.known w.1.issued; room = rw (e.same b u.known) w.1.room }, kept p q e day (k + 1) b xs w.2)
+    (stays p q e day a w.0, record { issued = signs p q e a b w.0.known u.known w.1.issued; allowed = rw (e.same b u.known) w.1.allowed }, kept p q e day (k + 1) b xs w.2)
 
 pub more_keeps : MoreKeeps
 more_keeps p q day first xs e c = let w = whole p day first xs c in subst (Chain q day first) (sym w.split) (chain q day first w.above (kept p q e day 0 first w.above w.way))

@@ -27,10 +27,10 @@ pub record Ways (p : Pool) (day k a n : ℕ) : Type 0 where
   pub long : length above ≡ n
 
 held? : (p : Pool) (day a : ℕ) → Dec (Held p day a)
-held? p day a = via (λ h. record { known = h.0; valid = h.1 }) (λ h. (h.known, h.valid)) (both? (dec_lt a p.count) (true? (holds (p.certificate a) day)))
+held? p day a = via (λ h. record { known = h.0; holding = h.1 }) (λ h. (h.known, h.holding)) (both? (dec_lt a p.count) (true? (holds (p.certificate a) day)))
 
 step? : (p : Pool) (k a b : ℕ) → Dec (Step p k a b)
-step? p k a b = via (λ h. record { issued = h.0; room = h.1 }) (λ h. (h.issued, h.room)) (both? (true? (issues p b a)) (dec_le k (p.certificate b).path_len))
+step? p k a b = via (λ h. record { issued = h.0; allowed = h.1 }) (λ h. (h.issued, h.allowed)) (both? (true? (issues p b a)) (dec_le k (p.certificate b).path_len))
 
 top : {p : Pool} {day k a : ℕ} → Ways p day k a 0 → Held p day a × (p.anchor a ≡ true)
 top {p} {day} {k} {a} w = go w.above w.way w.long

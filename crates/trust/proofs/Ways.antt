@@ -6,12 +6,12 @@ use Rattle.trust.specs.Chains.{Pool, holds, issues, follows, climbs, Chain}
 -- a certificate of the pool that holds on the day
 pub record Held (p : Pool) (day a : ℕ) : Type 0 where
   pub known : a < p.count
-  pub valid : holds (p.certificate a) day ≡ true
+  pub holding : holds (p.certificate a) day ≡ true
 
 -- b issues a and allows k certificates between itself and the first
 pub record Step (p : Pool) (k a b : ℕ) : Type 0 where
   pub issued : issues p b a ≡ true
-  pub room : k ≤ (p.certificate b).path_len
+  pub allowed : k ≤ (p.certificate b).path_len
 
 -- from a, below which k certificates stand, up over xs to a trust anchor
 abbrev pub Way : Pool → (day k a : ℕ) → List ℕ → Type 0
@@ -24,20 +24,20 @@ unfolding follows
 follow_parts p day k a b f =
     let i = and_parts (issues p b a) (leb k (p.certificate b).path_len && holds (p.certificate b) day) f in
     let r = and_parts (leb k (p.certificate b).path_len) (holds (p.certificate b) day) i.1 in
-    (r.1, record { issued = i.0; room = leb-true _ _ r.0 })
+    (r.1, record { issued = i.0; allowed = leb-true _ _ r.0 })
 
 pub follow_from : (p : Pool) (day j k a b : ℕ) → holds (p.certificate b) day ≡ true → Step p k a b → j ≤ k → follows p day j a b ≡ true
 unfolding follows
-follow_from p day j k a b v s l = and_from _ _ s.issued (and_from _ _ (le-leb j (p.certificate b).path_len (omega (arith, s.room))) v)
+follow_from p day j k a b v s l = and_from _ _ s.issued (and_from _ _ (le-leb j (p.certificate b).path_len (omega (arith, s.allowed))) v)
 
 -- a row of the pool's certificates that climbs from one that holds is a way
 pub way_from : (p : Pool) (day k a : ℕ) (xs : List ℕ) → holds (p.certificate a) day ≡ true → climbs p day k (a ∷ xs) ≡ true → ((i : ℕ) → i < length (a ∷ xs) → get_or (a ∷ xs) i 0 < p.count) → Way p day k a xs
 unfolding climbs
-way_from p day k a [] v c known = (record { known = known 0 (omega arith); valid = v }, c)
+way_from p day k a [] v c known = (record { known = known 0 (omega arith); holding = v }, c)
 way_from p day k a (b ∷ xs) v c known =
     let h = and_parts (follows p day k a b) _ c in
     let f = follow_parts p day k a b h.0 in
-    (record { known = known 0 (omega arith); valid = v }, f.1, way_from p day (k + 1) b xs f.0 h.1 (λ j l. known (suc j) (omega arith)))
+    (record { known = known 0 (omega arith); holding = v }, f.1, way_from p day (k + 1) b xs f.0 h.1 (λ j l. known (suc j) (omega arith)))
 
 pub held : (p : Pool) (day k a : ℕ) (xs : List ℕ) → Way p day k a xs → Held p day a
 held p day k a [] w = w.0
@@ -46,7 +46,7 @@ held p day k a (b ∷ xs) w = w.0
 pub climbs_from : (p : Pool) (day k a : ℕ) (xs : List ℕ) → Way p day k a xs → climbs p day k (a ∷ xs) ≡ true
 unfolding climbs
 climbs_from p day k a [] w = w.1
-climbs_from p day k a (b ∷ xs) w = and_from _ _ (follow_from p day k k a b (held p day (k + 1) b xs w.2).valid w.1 (omega arith)) (climbs_from p day (k + 1) b xs w.2)
+climbs_from p day k a (b ∷ xs) w = and_from _ _ (follow_from p day k k a b (held p day (k + 1) b xs w.2).holding w.1 (omega arith)) (climbs_from p day (k + 1) b xs w.2)
 
 pub known_from : (p : Pool) (day k a : ℕ) (xs : List ℕ) → Way p day k a xs → (i : ℕ) → i < length (a ∷ xs) → get_or (a ∷ xs) i 0 < p.count
 known_from p day k a xs w zero l = (held p day k a xs w).known
@@ -62,15 +62,15 @@ pub record Whole (p : Pool) (day first : ℕ) (xs : List ℕ) : Type 0 where
 pub whole : (p : Pool) (day first : ℕ) (xs : List ℕ) → Chain p day first xs → Whole p day first xs
 unfolding climbs
 whole p day first [] c = absurd (false≢true c.climb)
-whole p day first (a ∷ xs) c = record { above = xs; split = ap (λ x. x ∷ xs) c.begins; way = subst (λ x. Way p day 0 x xs) c.begins (way_from p day 0 a xs (subst (λ x. holds (p.certificate x) day ≡ true) (sym c.begins) c.valid) c.climb c.known) }
+whole p day first (a ∷ xs) c = record { above = xs; split = ap (λ x. x ∷ xs) c.begins; way = subst (λ x. Way p day 0 x xs) c.begins (way_from p day 0 a xs (subst (λ x. holds (p.certificate x) day ≡ true) (sym c.begins) c.holding) c.climb c.known) }
 
 pub chain : (p : Pool) (day first : ℕ) (xs : List ℕ) → Way p day 0 first xs → Chain p day first (first ∷ xs)
-chain p day first xs w = record { begins = refl; known = known_from p day 0 first xs w; valid = (held p day 0 first xs w).valid; climb = climbs_from p day 0 first xs w }
+chain p day first xs w = record { begins = refl; known = known_from p day 0 first xs w; holding = (held p day 0 first xs w).holding; climb = climbs_from p day 0 first xs w }
 
 -- closer to the first certificate, path_len allows no less
 pub nearer : (p : Pool) (day j k a : ℕ) (xs : List ℕ) → j ≤ k → Way p day k a xs → Way p day j a xs
 nearer p day j k a [] l w = w
-nearer p day j k a (b ∷ xs) l w = (w.0, record { issued = w.1.issued; room = omega arith }, nearer p day (j + 1) (k + 1) b xs (omega arith) w.2)
+nearer p day j k a (b ∷ xs) l w = (w.0, record { issued = w.1.issued; allowed = omega arith }, nearer p day (j + 1) (k + 1) b xs (omega arith) w.2)
 
 -- a way from a that is shorter than n
 pub record Shorter (p : Pool) (day k a n : ℕ) : Type 0 where

@@ -39,7 +39,7 @@ climbs p day k (a ∷ (b ∷ xs)) = follows p day k a b && climbs p day (k + 1) 
 pub record Chain (p : Pool) (day first : ℕ) (xs : List ℕ) : Type 0 where
   pub begins : slice_index_or xs 0 0 ≡ first
   pub known : (i : ℕ) → i < length xs → slice_index xs i < p.count
-  pub valid : holds (p.certificate first) day ≡ true
+  pub holding : holds (p.certificate first) day ≡ true
   pub climb : climbs p day 0 xs ≡ true
 
 -- a chain such that none is shorter

@@ -23,9 +23,9 @@ pub record Links (p : Pool) (day first : ℕ) (xs : List ℕ) : Type 0 where
   pub some : 0 < length xs
   pub begins : slice_index_or xs 0 0 ≡ first
   pub known : (i : ℕ) → i < length xs → slice_index xs i < p.count
-  pub valid : (i : ℕ) → i < length xs → holds (p.certificate (slice_index xs i)) day ≡ true
+  pub holding : (i : ℕ) → i < length xs → holds (p.certificate (slice_index xs i)) day ≡ true
   pub issued : (i : ℕ) → i + 1 < length xs → issues p (slice_index xs (i + 1)) (slice_index xs i) ≡ true
-  pub room : (i : ℕ) → i + 1 < length xs → i ≤ (p.certificate (slice_index xs (i + 1))).path_len
+  pub allowed : (i : ℕ) → i + 1 < length xs → i ≤ (p.certificate (slice_index xs (i + 1))).path_len
   pub anchored : (i : ℕ) → i + 1 ≡ length xs → p.anchor (slice_index xs i) ≡ true
 
 -- `Chain` and `Links` say the same

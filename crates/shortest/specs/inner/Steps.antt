@@ -12,8 +12,10 @@ abbrev pub from_by : Option Step → ℕ
 from_by None = 0
 from_by (Some s) = s.below
 
+-- of each certificate
 abbrev pub far : List (Option Step) → List ℕ
 far steps = map far_by steps
 
+-- of each certificate
 abbrev pub from : List (Option Step) → List ℕ
 from steps = map from_by steps

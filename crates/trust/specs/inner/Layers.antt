@@ -10,9 +10,9 @@ pub record Parent (p : Pool) (day : ℕ) (far from : List ℕ) (m b : ℕ) : Typ
 -- far a is k + 1 for a certificate reached in layer k, that is with k certificates below it, and 0 for one not reached; from a is the one below it
 pub record Tree (p : Pool) (day first : ℕ) (far from : List ℕ) : Type 0 where
   pub known : first < p.count
-  pub valid : holds (p.certificate first) day ≡ true
-  pub room : p.count ≤ length far
-  pub from_room : p.count ≤ length from
+  pub holding : holds (p.certificate first) day ≡ true
+  pub long : p.count ≤ length far
+  pub from_long : p.count ≤ length from
   pub below : (a : ℕ) → slice_index from a < p.count
   pub start : slice_index_or far first 0 ≡ 1
   pub only : (a : ℕ) → a < p.count → slice_index far a ≡ 1 → a ≡ first
@@ -26,7 +26,7 @@ pub record Queued (order : List ℕ) (size a : ℕ) : Type 0 where
 
 -- the first `size` of order are the certificates reached, each once, layer by layer
 pub record Order (p : Pool) (far order : List ℕ) (size : ℕ) : Type 0 where
-  pub room : p.count ≤ length order
+  pub long : p.count ≤ length order
   pub few : size ≤ p.count
   pub listed : (j : ℕ) → j < size → slice_index order j < p.count
   pub reached : (j : ℕ) → j < size → 0 < slice_index far (slice_index order j)
