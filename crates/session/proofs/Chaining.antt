@@ -6,11 +6,11 @@ use Rattle.chain.specs.Rejections.{rejection_number}
 use Rattle.chain.specs.declared.input.Rejection.{Rejection}
 use Rattle.shortest.specs.Answers as search
 use Rattle.shortest.specs.Places.{RejectionPlace}
-use Rattle.text.specs.Texts.{chain_text, none_text, refusal_text}
+use Rattle.text.specs.Texts.{chain_text, none_text, rejection_text}
 use Rattle.session.specs.declared.papers.Paper.{Paper}
 use Rattle.session.specs.Books.{Brought}
 use Rattle.session.specs.inner.Held.{paper_bytes}
-use Rattle.session.specs.Answers.{lent, pool_input, ChainAnswer, found, none, rejected}
+use Rattle.session.specs.Answers.{lent, brought_input, ChainAnswer, found, none, rejected}
 
 -- there are as many papers as bytes of papers
 pub papers_count : {Z : Type 0} (papers : Vec Paper Z) → vec_len papers ≡ length (map paper_bytes (vec_items papers))
@@ -20,24 +20,24 @@ papers_count papers = papers.ok.0 ∙ sym (length-map (vec_items papers) paper_b
 pub paper_at : {Z : Type 0} (papers : Vec Paper Z) (i : ℕ) (paper : Paper) → i < vec_len papers → paper ≡ slice_index_or (vec_items papers) i paper → paper_bytes paper ≡ slice_index_or (map paper_bytes (vec_items papers)) i []
 paper_at papers i paper less is = ap paper_bytes is ∙ sym (get_or-map paper_bytes (vec_items papers) i paper [] (omega (arith, papers.ok.0)))
 
-module _ (b : Brought) (numbers : List ℕ) (first day : ℕ) (i : Input) (same : i ≡ pool_input b numbers) (old new : List ℕ) (long : length old ≡ lent b) where
+module _ (b : Brought) (numbers : List ℕ) (first day : ℕ) (i : Input) (same : i ≡ brought_input b numbers) (old new : List ℕ) (long : length old ≡ lent b) where
   abbrev Said : Result (Option ℕ) Rejection → Type 0
   Said a = search.Answers i day first old new a
 
   -- what the search said, of the papers and marks
-  of_book : (a : Result (Option ℕ) Rejection) → Said a → search.Answers (pool_input b numbers) day first old new a
+  of_book : (a : Result (Option ℕ) Rejection) → Said a → search.Answers (brought_input b numbers) day first old new a
   of_book a = subst (λ j. search.Answers j day first old new a) same
 
-  taken : (o : Option Rejection) → search.rejection (pool_input b numbers) first (length old) ≡ o → search.rejection (pool_input b numbers) first (lent b) ≡ o
-  taken o e = ap (search.rejection (pool_input b numbers) first) (sym long) ∙ e
+  accepted : (o : Option Rejection) → search.question_rejection (brought_input b numbers) first (length old) ≡ o → search.question_rejection (brought_input b numbers) first (lent b) ≡ o
+  accepted o e = ap (search.question_rejection (brought_input b numbers) first) (sym long) ∙ e
 
   pub chain_found : (k : ℕ) → Said (Ok (Some k)) → ChainAnswer b numbers first day (chain_text (take k new))
-  chain_found k a = let (ok, w) = of_book (Ok (Some k)) a in found (take k new) (record { taken = taken None ok; shortest = w.shortest })
+  chain_found k a = let (ok, w) = of_book (Ok (Some k)) a in found (take k new) (record { accepted = accepted None ok; shortest = w.shortest })
 
   pub chain_none : Said (Ok None) → ChainAnswer b numbers first day none_text
-  chain_none a = let (ok, (unchanged, f)) = of_book (Ok None) a in none (taken None ok) f
+  chain_none a = let (ok, (unchanged, f)) = of_book (Ok None) a in none (accepted None ok) f
 
-  pub chain_refused : (why : Rejection) → Said (Err why) → (place : ℕ) → RejectionPlace why i first (length new) place → ChainAnswer b numbers first day (refusal_text (rejection_number why) place)
-  chain_refused why a place there =
+  pub chain_rejected : (why : Rejection) → Said (Err why) → (place : ℕ) → RejectionPlace why i first (length new) place → ChainAnswer b numbers first day (rejection_text (rejection_number why) place)
+  chain_rejected why a place there =
       let (is, unchanged) = of_book (Err why) a in
-      rejected why (taken (Some why) is) place (subst (λ size. RejectionPlace why (pool_input b numbers) first size place) (ap length unchanged ∙ long) (subst (λ j. RejectionPlace why j first (length new) place) same there))
+      rejected why (accepted (Some why) is) place (subst (λ size. RejectionPlace why (brought_input b numbers) first size place) (ap length unchanged ∙ long) (subst (λ j. RejectionPlace why j first (length new) place) same there))

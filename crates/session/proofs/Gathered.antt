@@ -2,7 +2,7 @@
 use Rattle.std.proofs.Common.{◌≡◌, ℕ, ◌+◌, List, [], ◌∷◌, ◌++◌, length, Some, Option, sym, refl, ap, ◌∙◌, append_assoc, append-nil, length-append, add-one}
 use Rattle.text.specs.Meaning.{Meaning, nothing, paper, seals, trusted, piece, chain, meaning}
 use Rattle.text.specs.Tokens.{lines}
-use Rattle.session.specs.Books.{Brought, no_more, brings, brought_by, brought}
+use Rattle.session.specs.Books.{Brought, nothing_brought, brings, brought_by, brought}
 use Rattle.session.specs.inner.Held.{added}
 use Rattle.session.specs.inner.Questions.{Asked, asks, all_asked}
 
@@ -19,10 +19,10 @@ added_assoc a b c = λ i. record {
 }
 
 -- nothing more is brought
-pub added_none : (b : Brought) → b ≡ added b no_more
+pub added_none : (b : Brought) → b ≡ added b nothing_brought
 added_none b i = record { papers = sym (append-nil b.papers) i; seals = sym (append-nil b.seals) i; trusted = sym (append-nil b.trusted) i }
 
-pub gathered_none : (text : List ℕ) (held : Brought) (kept : List Asked) (n : ℕ) (rest : List (List ℕ)) → held ≡ no_more → kept ≡ [] → n ≡ 0 → rest ≡ lines text → Gathered text held kept n rest
+pub gathered_none : (text : List ℕ) (held : Brought) (kept : List Asked) (n : ℕ) (rest : List (List ℕ)) → held ≡ nothing_brought → kept ≡ [] → n ≡ 0 → rest ≡ lines text → Gathered text held kept n rest
 gathered_none text held kept n rest h k z e = record {
   whole = ap (λ b. added b (brought_by rest)) h ∙ ap brought_by e;
   asked = ap (λ l. l ++ all_asked (length held.papers) n rest) k ∙ ap (λ b. all_asked (length b.papers) n rest) h ∙ ap (λ m. all_asked 0 m rest) z ∙ ap (all_asked 0 0) e;

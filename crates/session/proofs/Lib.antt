@@ -3,6 +3,8 @@ pub mod Cutting
 pub mod Gathered
 pub mod Known
 pub mod Lines
+pub mod NoPermits
+pub mod Parts
 pub mod Putting
 pub mod Quiet
 pub mod Showing

@@ -1,54 +1,95 @@
--- Texts whose lines are blank or comments.
+-- Texts whose lines bring and ask nothing.
 use Rattle.std.proofs.Common.{◌≡◌, ℕ, zero, suc, ◌+◌, List, [], ◌∷◌, ◌++◌, length, map, Some, None, Option, refl, ap, ◌∙◌, subst, arith}
 use Rattle.std.specs.Option.{option_map}
 use Rattle.std.specs.List.{All}
 use Rattle.format.specs.Elements.{written, framed}
 use Rattle.certificate.specs.Permits.{permit_row}
-use Rattle.text.specs.Meaning.{Meaning, nothing, paper, seals, trusted, piece, meaning}
+use Rattle.text.specs.Meaning.{Meaning, nothing, paper, seals, trusted, piece, chain, meaning}
 use Rattle.text.specs.Reading.{StoresWords, stores_paper, stores_seals, stores_trusted, stores_path}
 use Rattle.text.specs.Tokens.{words}
-use Rattle.text.specs.inner.Figures.{both}
+use Rattle.text.specs.inner.Figures.{both, numbers, all_of}
 use Rattle.text.specs.inner.Saying.{words_say}
 use Rattle.session.specs.Books.{brought_by, brings, paper_at}
+use Rattle.session.specs.Writing.{StoresNothing, says_nothing, no_seals, no_trusted}
 use Rattle.session.specs.inner.Held.{NoFirstPermit}
 use Rattle.session.specs.inner.Questions.{asks, all_asked}
 
 abbrev pub Quiet : List (List ℕ) → Type 0
-Quiet ls = All (λ line. meaning line ≡ Some nothing) ls
+Quiet ls = All (λ line. StoresNothing (meaning line)) ls
 
 -- the first line, and those behind it
-pub first_quiet : (ls left : List (List ℕ)) (line : List ℕ) → ls ≡ line ∷ left → Quiet ls → meaning line ≡ Some nothing
+pub first_quiet : (ls left : List (List ℕ)) (line : List ℕ) → ls ≡ line ∷ left → Quiet ls → StoresNothing (meaning line)
 first_quiet ls left line e q = let r = subst Quiet e q in r zero line (omega arith)
 
 pub rest_quiet : (ls left : List (List ℕ)) (line : List ℕ) → ls ≡ line ∷ left → Quiet ls → Quiet left
 rest_quiet ls left line e q = let r = subst Quiet e q in λ k d h. r (suc k) d (omega arith)
 
-mapped : {X : Type 0} (f : X → Meaning) → ((x : X) → f x ≡ nothing → ⊥) → (o : Option X) → option_map f o ≡ Some nothing → ⊥
-mapped f other None e = cc
-mapped f other (Some x) e = other x cc
+-- what such a line says, case by case
+StoredAs : Option Meaning → Type 0
+StoredAs None = ⊥
+StoredAs (Some nothing) = Unit {0}
+StoredAs (Some (paper bytes)) = ⊥
+StoredAs (Some (seals marks)) = marks ≡ []
+StoredAs (Some (trusted marks)) = marks ≡ []
+StoredAs (Some (piece p path)) = ⊥
+StoredAs (Some (chain first day)) = ⊥
 
-paired : {X Y : Type 0} (f : X → Y → Meaning) → ((x : X) (y : Y) → f x y ≡ nothing → ⊥) → (o : Option X) (p : Option Y) → both f o p ≡ Some nothing → ⊥
-paired f other None p e = cc
-paired f other (Some x) None e = cc
-paired f other (Some x) (Some y) e = other x y cc
-
-stores_none : (ws : List (List ℕ)) → StoresWords ws → words_say ws ≡ Some nothing → ⊥
-stores_none _ (stores_paper word ws) e = mapped paper (λ x h. cc) _ e
-stores_none _ (stores_seals word ws) e = mapped seals (λ x h. cc) _ e
-stores_none _ (stores_trusted word ws) e = mapped trusted (λ x h. cc) _ e
-stores_none _ (stores_path p word ws) e = paired piece (λ x y h. cc) _ _ e
-
--- a line that stores words says something
-pub stores_quiet : (line : List ℕ) → StoresWords (words line) → meaning line ≡ Some nothing → ⊥
-unfolding meaning
-stores_quiet line s e = stores_none (words line) s e
-
-pub quiet_papers : (ls : List (List ℕ)) → Quiet ls → (brought_by ls).papers ≡ []
-quiet_papers [] q = refl
-quiet_papers (l ∷ ls) q = ap (λ o. (brings o).papers ++ (brought_by ls).papers) (first_quiet (l ∷ ls) ls l refl q) ∙ quiet_papers ls (rest_quiet (l ∷ ls) ls l refl q)
+stored_as : (o : Option Meaning) → StoresNothing o → StoredAs o
+unfolding StoredAs
+stored_as _ says_nothing = tt
+stored_as _ no_seals = refl
+stored_as _ no_trusted = refl
 
 some_bytes : (b : ℕ) (bs : List ℕ) → b ∷ bs ≡ [] → ⊥
 some_bytes b bs e = cc
+
+-- words that are stored are bytes, a path, or at least one mark
+stored_bytes : (o : Option (List ℕ)) → StoredAs (option_map paper o) → ⊥
+unfolding StoredAs
+stored_bytes None k = k
+stored_bytes (Some bs) k = k
+
+stored_path : (o : Option ℕ) (p : Option (List ℕ)) → StoredAs (both piece o p) → ⊥
+unfolding StoredAs
+stored_path None p k = k
+stored_path (Some n) None k = k
+stored_path (Some n) (Some ns) k = k
+
+stored_mark : (make : List ℕ → Meaning) → (StoredAs None → ⊥) → ((ms : List ℕ) → StoredAs (Some (make ms)) → ms ≡ []) → (o : Option ℕ) (p : Option (List ℕ)) → StoredAs (option_map make (both ◌∷◌ o p)) → ⊥
+stored_mark make none h None p k = none k
+stored_mark make none h (Some n) None k = none k
+stored_mark make none h (Some n) (Some ns) k = some_bytes n ns (h (n ∷ ns) k)
+
+stores_none : (ws : List (List ℕ)) → StoresWords ws → StoredAs (words_say ws) → ⊥
+unfolding numbers all_of StoredAs
+stores_none _ (stores_paper word ws) k = stored_bytes _ k
+stores_none _ (stores_seals word ws) k = stored_mark seals (λ h. h) (λ ms h. h) _ _ k
+stores_none _ (stores_trusted word ws) k = stored_mark trusted (λ h. h) (λ ms h. h) _ _ k
+stores_none _ (stores_path p word ws) k = stored_path _ _ k
+
+-- a line that stores words brings or asks something
+pub stores_quiet : (line : List ℕ) → StoresWords (words line) → StoresNothing (meaning line) → ⊥
+unfolding meaning
+stores_quiet line s k = stores_none (words line) s (stored_as _ k)
+
+-- so does a line that can't be read
+pub unread_quiet : (line : List ℕ) → meaning line ≡ None → StoresNothing (meaning line) → ⊥
+unfolding StoredAs
+unread_quiet line e k = stored_as None (subst StoresNothing e k)
+
+no_papers : (o : Option Meaning) → StoresNothing o → (brings o).papers ≡ []
+no_papers _ says_nothing = refl
+no_papers _ no_seals = refl
+no_papers _ no_trusted = refl
+
+none_asked : (k n : ℕ) (o : Option Meaning) → StoresNothing o → asks k n o ≡ []
+none_asked k n _ says_nothing = refl
+none_asked k n _ no_seals = refl
+none_asked k n _ no_trusted = refl
+
+pub quiet_papers : (ls : List (List ℕ)) → Quiet ls → (brought_by ls).papers ≡ []
+quiet_papers [] q = refl
+quiet_papers (l ∷ ls) q = ap (λ ps. ps ++ (brought_by ls).papers) (no_papers (meaning l) (first_quiet (l ∷ ls) ls l refl q)) ∙ quiet_papers ls (rest_quiet (l ∷ ls) ls l refl q)
 
 pub no_first_permit : (papers : List (List ℕ)) → papers ≡ [] → NoFirstPermit papers
 unfolding permit_row written framed
@@ -58,8 +99,7 @@ pub quiet_asked : (ls : List (List ℕ)) (k n : ℕ) → Quiet ls → all_asked 
 unfolding all_asked
 quiet_asked [] k n q = refl
 quiet_asked (l ∷ ls) k n q =
-    let same = first_quiet (l ∷ ls) ls l refl q in
-    ap (λ o. asks k n o ++ all_asked (k + length (brings o).papers) (suc n) ls) same ∙ quiet_asked ls (k + 0) (suc n) (rest_quiet (l ∷ ls) ls l refl q)
+    ap (λ qs. qs ++ all_asked (k + length (brings (meaning l)).papers) (suc n) ls) (none_asked k n (meaning l) (first_quiet (l ∷ ls) ls l refl q)) ∙ quiet_asked ls (k + length (brings (meaning l)).papers) (suc n) (rest_quiet (l ∷ ls) ls l refl q)
 
 pub none_mapped : {X Y : Type 0} (f : X → Y) (xs : List X) → map f xs ≡ [] → xs ≡ []
 none_mapped f [] e = refl

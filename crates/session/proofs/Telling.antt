@@ -153,10 +153,10 @@ told_none text numbers left e = record { front = []; back = lines text; before =
 
 module _ (text numbers : List ℕ) (permits : Numbers (brought text).papers numbers) where
   pub text_answered : (written : List ℕ) → Told (brought text) numbers (lines text) written [] → AnsweredText text written
-  text_answered written t = record { numbers = numbers; permits = permits; answers = end (brought text) numbers (lines text) written t }
+  text_answered written t = record { numbers = numbers; numbered = permits; answers = end (brought text) numbers (lines text) written t }
 
   pub front_answered : (written : List ℕ) (left : List Asked) → Told (brought text) numbers (lines text) written left → AnsweredFront text written
-  front_answered written left t = record { numbers = numbers; permits = permits; front = t.front; back = t.back; split = t.at.split; answers = t.at.answers }
+  front_answered written left t = record { numbers = numbers; numbered = permits; front = t.front; back = t.back; split = t.at.split; answers = t.at.answers }
 
   pub cut_answered : (written begun unsaid : List ℕ) (q : Asked) (left : List Asked) → Turn (brought text) numbers (lines text) written q left → AnsweredAsked (brought text) numbers q (begun ++ unsaid) → AnsweredFront text ((written ++ begun) ++ unsaid)
   cut_answered written begun unsaid q left t a = subst (AnsweredFront text) (sym (append_assoc written begun unsaid)) (front_answered (written ++ (begun ++ unsaid)) left (answered (brought text) numbers (lines text) written (begun ++ unsaid) q left t a))

@@ -2,8 +2,8 @@
 ghost use Rattle.std.specs.Prelude.{◌≡◌, length};
 ghost use Rattle.chain.specs.Inputs.{input_of};
 ghost use Rattle.chain.specs.Rejections.{rejection_number};
-ghost use Rattle.text.specs.Texts.{AppendsText, refusal_text};
-ghost use Rattle.session.specs.Answers.{lent, pool_input, PaperAnswer, PieceAnswer, ChainAnswer};
+ghost use Rattle.text.specs.Texts.{AppendsText, rejection_text};
+ghost use Rattle.session.specs.Answers.{lent, brought_input, PaperAnswer, PieceAnswer, ChainAnswer};
 ghost use Rattle.session.specs.Books.{Brought, paper_at};
 ghost use Rattle.session.specs.inner.Held.{AllIndexed, Indexed, held, paper_bytes};
 ghost use Rattle.session.specs.inner.Puts.{Puts};
@@ -16,7 +16,7 @@ use element::{Cursor, Verdict};
 use shortest::{find_chain, rejection_place};
 use std::alloc::AllocError;
 use text::{
-    append_bytes, append_chain, append_ill, append_none, append_refusal, append_unreadable,
+    append_bytes, append_chain, append_ill, append_none, append_rejection, append_unreadable,
 };
 
 // The elements of a paper, or the place at which its bytes are malformed.
@@ -31,20 +31,20 @@ fn answer_paper(paper: &Paper, out: &mut Vec<u8>) -> Result<(), AllocError>
 }
 
 // A rejection and its place.
-fn refuse(out: &mut Vec<u8>, why: Rejection, place: u64) -> Result<(), AllocError>
-    ensures { AppendsText result out.old.items (refusal_text (rejection_number why) place) out.new.items }
+fn reject(out: &mut Vec<u8>, why: Rejection, place: u64) -> Result<(), AllocError>
+    ensures { AppendsText result out.old.items (rejection_text (rejection_number why) place) out.new.items }
 {
-    append_refusal(out, u64::from(why.number()), place)
+    append_rejection(out, u64::from(why.number()), place)
 }
 
 impl Book {
-    // The element of a paper by a path, `none`, or the refusal if there is no such paper.
+    // The element of a paper by a path, `none`, or the rejection if there is no such paper.
     fn answer_piece(&self, paper: u64, path: &[u64], out: &mut Vec<u8>) -> Result<(), AllocError>
         requires { AllIndexed self.now }
         ensures { Puts (PieceAnswer (held self.now).papers paper path.now) result out.old.items out.new.items }
     {
         let Some(known) = self.papers.get(paper as usize) else {
-            return refuse(out, Rejection::Unknown, paper);
+            return reject(out, Rejection::Unknown, paper);
         };
         match known.piece(path) {
             Some(part) => append_bytes(out, part),
@@ -54,7 +54,7 @@ impl Book {
 
     // The papers and marks as the input of a pool.
     fn input(&self) -> PoolInput<'_>
-        ensures { input_of result ≡ pool_input (held self.now) self.now.numbers.items }
+        ensures { input_of result ≡ brought_input (held self.now) self.now.numbers.items }
     {
         PoolInput {
             count: self.papers.len() as u64,
@@ -81,7 +81,7 @@ impl Book {
             Ok(None) => append_none(out),
             Err(why) => {
                 let size = buffer.len() as u64;
-                refuse(out, why, rejection_place(why, input, first, size))
+                reject(out, why, rejection_place(why, input, first, size))
             }
         }
     }

@@ -15,7 +15,7 @@ pub enum AnswerError {
     Write(io::Error),
 }
 
-// By hand, since a derived `From` has no contract.
+// A failed allocation is `Memory`.
 impl From<AllocError> for AnswerError {
     ghost from_gives = { λ error result. result ≡ Memory error };
 
@@ -24,6 +24,7 @@ impl From<AllocError> for AnswerError {
     }
 }
 
+// What the writer fails with is handed on as it is.
 impl From<io::Error> for AnswerError {
     ghost from_gives = { λ error result. result ≡ Write error };
 

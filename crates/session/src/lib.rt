@@ -13,7 +13,10 @@ mod writing;
 
 pub use error::AnswerError;
 use papers::Paper;
-pub use promise::{more_text_stands, pool_of_papers_stands, row_text_stands};
+pub use promise::{
+    each_line_stands, more_brought_stands, more_text_stands, no_permit_stands,
+    other_numbers_stands, pool_of_papers_stands, row_text_stands,
+};
 use question::Question;
 pub use writing::answer_text;
 

@@ -1,8 +1,8 @@
 // The numbers of the papers that are permits.
-ghost use Rattle.std.specs.Prelude.{◌≡◌, ◌++◌, map, IfOk, IsOk, OnOk};
+ghost use Rattle.std.specs.Prelude.{◌≡◌, ℕ, List, ◌++◌, map, IfOk, IsOk, OnOk};
 ghost use Rattle.certificate.specs.Permits.{certificate_of};
 ghost use Rattle.session.specs.Books.{Numbers};
-ghost use Rattle.session.specs.inner.Held.{NoFirstPermit, paper_bytes, six};
+ghost use Rattle.session.specs.inner.Held.{NoFirstPermit, SixNumbers, paper_bytes};
 
 use crate::Paper;
 use certificate::{Certificate, decode};
@@ -10,7 +10,7 @@ use std::alloc::{AllocError, Global};
 
 // Puts a certificate's six numbers behind the others.
 fn push_six(numbers: &mut Vec<u32>, c: Certificate) -> Result<(), AllocError>
-    ensures { OnOk result (numbers.new.items ≡ numbers.old.items ++ six (certificate_of c)) }
+    ensures { OnOk result ((six : List ℕ) × (numbers.new.items ≡ numbers.old.items ++ six) × SixNumbers six (certificate_of c)) }
 {
     let six = [
         c.subject,

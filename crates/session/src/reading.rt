@@ -1,8 +1,8 @@
 // A book made of a text.
 ghost use Rattle.std.specs.Prelude.{◌≡◌, [], ◌++◌, length, IfOk, IsOk, OnOk, Some};
-ghost use Rattle.text.specs.Meaning.{says, nothing, paper};
-ghost use Rattle.session.specs.Books.{no_more, brings};
-ghost use Rattle.session.specs.Writing.{SaysNothing};
+ghost use Rattle.text.specs.Meaning.{says, paper};
+ghost use Rattle.session.specs.Books.{nothing_brought, brings};
+ghost use Rattle.session.specs.Writing.{StoresNothing, NothingStored};
 ghost use Rattle.session.specs.inner.Held.{AllIndexed, added, held};
 ghost use Rattle.session.specs.inner.Questions.{asks, kept, BookOf};
 
@@ -15,7 +15,7 @@ impl Book {
     // A book of nothing.
     fn new(heap: Global) -> Book
         ensures indexed { AllIndexed result }
-        ensures held { held result ≡ no_more }
+        ensures held { held result ≡ nothing_brought }
         ensures kept { kept result ≡ [] }
     {
         Book {
@@ -40,7 +40,7 @@ impl Book {
 
     // Takes in what a command brings and asks.
     fn note(&mut self, heap: Global, command: Command) -> Result<(), AllocError>
-        ensures quiet { says command ≡ nothing → IsOk result }
+        ensures quiet { StoresNothing (Some (says command)) → IsOk result }
         ensures indexed { OnOk result (AllIndexed self.old → AllIndexed self.new) }
         ensures held { OnOk result (held self.new ≡ added (held self.old) (brings (Some (says command)))) }
         ensures kept { OnOk result (kept self.new ≡ kept self.old ++ asks (length (held self.old).papers) 0 (Some (says command))) }
@@ -62,7 +62,7 @@ impl Book {
     // The book of all that a text brings and asks.
     pub(crate) fn read(heap: Global, text: &[u8]) -> Result<Book, AllocError>
         ensures read { IfOk result (λ b. BookOf text.now b) }
-        ensures quiet { SaysNothing text.now → IsOk result }
+        ensures quiet { NothingStored text.now → IsOk result }
     {
         let mut book = Book::new(heap);
         for (number, line) in Lines::new(text).enumerate() {

@@ -1,9 +1,9 @@
 // The elements of a row, printed.
-ghost use Rattle.std.specs.Prelude.{◌≡◌, ℕ, ◌+◌, ◌^◌, ◌<◌, ◌++◌, length, OnOk};
+ghost use Rattle.std.specs.Prelude.{ℕ, ◌+◌, ◌^◌, ◌<◌, length};
 ghost use Rattle.format.specs.Elements.{Row, Reads};
 ghost use Rattle.element.specs.Cursors.{ahead};
 ghost use Rattle.element.specs.Limits.{longest};
-ghost use Rattle.text.specs.Texts.{StartsWith};
+ghost use Rattle.text.specs.Texts.{AppendsText};
 ghost use Rattle.session.specs.Rows.{row_text};
 
 use element::Cursor;
@@ -17,8 +17,7 @@ pub(crate) fn append_row(
     cursor: Cursor<'_>,
 ) -> Result<(), AllocError>
     requires { level + length (ahead cursor) < 2 ^ 64 }
-    ensures front { StartsWith out.old.items out.new.items }
-    ensures shown { OnOk result ((depth : ℕ) (row : Row) → Reads depth longest (ahead cursor.entry) row → out.new.items ≡ out.old.items ++ row_text level row) }
+    ensures { (depth : ℕ) (row : Row) → Reads depth longest (ahead cursor.entry) row → AppendsText result out.old.items (row_text level row) out.new.items }
 {
     for element in cursor {
         match element.row() {

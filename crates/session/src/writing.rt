@@ -1,7 +1,7 @@
 // The answer of a text, written.
 ghost use Rattle.std.specs.Prelude.{ℕ, ◌≡◌, [], List, IsOk};
 ghost use Rattle.std.specs.Io.KnownBytes.{Keeps};
-ghost use Rattle.session.specs.Writing.{SaysNothing, WritesAnswer};
+ghost use Rattle.session.specs.Writing.{NothingStored, WritesAnswer};
 ghost use Rattle.session.specs.inner.Held.{held};
 ghost use Rattle.session.specs.inner.Puts.{WritesFront, WritesOne};
 ghost use Rattle.session.specs.inner.Questions.{Answerable, AnsweredAsked, BookOf, asked};
@@ -62,10 +62,10 @@ impl Book {
 }
 
 // Answers a text of papers, marks and questions, one a line: writes the answers in the order of the lines, each by what the whole text brings. Lines and papers are numbered from 0.
-// Errors: out of memory, or the writer failed; neither for a text of blank lines and comments, whose answer is empty. Then the answers of the first lines have been written, whole, and if the writer failed perhaps a part of the next one. `out` is not flushed.
+// Errors: out of memory, or the writer failed; neither for a text that brings and asks nothing, whose answer is empty. Then the answers of the first lines have been written, whole, and if the writer failed perhaps a part of the next one. `out` is not flushed.
 pub fn answer_text<W: Write>(heap: Global, text: &[u8], out: &mut W) -> Result<(), AnswerError>
     ensures written { WritesAnswer text.now (W.contents out.old) (W.contents out.new) result }
-    ensures quiet { SaysNothing text.now → IsOk result × Keeps (W.contents out.old) (W.contents out.new) }
+    ensures quiet { NothingStored text.now → IsOk result × Keeps (W.contents out.old) (W.contents out.new) }
 {
     let book = Book::read(heap, text)?;
     book.write_answers(heap, out)

@@ -8,10 +8,10 @@ use Rattle.std.proofs.lemmas.Bool.{le-leb, lt-leb, lt-ltb, le-ltb, ne_eqb, and_f
 use Rattle.text.specs.Tokens.{blank, words}
 use Rattle.text.specs.inner.Figures.{both, number, digit, with_digit, decimal_after, below, hex_digit, word_bytes, bytes_of}
 use Rattle.text.specs.Meaning.{number_limit}
-use Rattle.text.specs.Texts.{blank_before, hex_text, spaced}
+use Rattle.text.specs.Texts.{space_before, hex_text, spaced}
 use Rattle.text.specs.Promise.{WordEnds}
 use Rattle.text.proofs.Cuts.{words_nil}
-use Rattle.text.proofs.Laws.{past_blank, word_in_front}
+use Rattle.text.proofs.Laws.{none_tested, one_tested, past_blank, word_in_front}
 use Rattle.text.proofs.Values.{below_some, number_some}
 
 -- a digit more behind
@@ -77,21 +77,21 @@ byte_again b lt =
 word_then : (b : ℕ) (rest bs : List ℕ) → b < 256 → WordEnds rest → bytes_of (words rest) ≡ Some bs → bytes_of (words (hex_text b ++ rest)) ≡ Some (b ∷ bs)
 unfolding bytes_of
 word_then b rest bs lt end e =
-    ap bytes_of (word_in_front (hex_text b) rest (omega arith) (hex_solid (b / 16), (hex_solid (b % 16), tt)) end) ∙ ap₂ (both ◌++◌) (byte_again b lt) e
+    ap bytes_of (word_in_front (hex_text b) rest (omega arith) (one_tested blank false (digitChar (b / 16)) (digitChar (b % 16) ∷ []) (hex_solid (b / 16)) (one_tested blank false (digitChar (b % 16)) [] (hex_solid (b % 16)) (none_tested blank false))) end) ∙ ap₂ (both ◌++◌) (byte_again b lt) e
 
-blank_first : (bs : List ℕ) → WordEnds (flat_map (blank_before hex_text) bs)
+blank_first : (bs : List ℕ) → WordEnds (flat_map (space_before hex_text) bs)
 blank_first [] = tt
 blank_first (b ∷ bs) = refl
 
-row_again : (bs : List ℕ) → All (λ b. b < 256) bs → bytes_of (words (flat_map (blank_before hex_text) bs)) ≡ Some bs
+row_again : (bs : List ℕ) → All (λ b. b < 256) bs → bytes_of (words (flat_map (space_before hex_text) bs)) ≡ Some bs
 unfolding bytes_of
 row_again [] h = ap bytes_of words_nil
-row_again (b ∷ bs) h = ap bytes_of (past_blank 32 (hex_text b ++ flat_map (blank_before hex_text) bs) refl) ∙ word_then b _ bs (All-head (λ b. b < 256) b bs h) (blank_first bs) (row_again bs (All-tail (λ b. b < 256) b bs h))
+row_again (b ∷ bs) h = ap bytes_of (past_blank 32 (hex_text b ++ flat_map (space_before hex_text) bs) refl) ∙ word_then b _ bs (All-head (λ b. b < 256) b bs h) (blank_first bs) (row_again bs (All-tail (λ b. b < 256) b bs h))
 
 pub bytes_again : (bs : List ℕ) → All (λ b. b < 256) bs → bytes_of (words (spaced hex_text bs)) ≡ Some bs
 unfolding bytes_of
 bytes_again [] h = ap bytes_of words_nil
-bytes_again (b ∷ bs) h = word_then b (flat_map (blank_before hex_text) bs) bs (All-head (λ b. b < 256) b bs h) (blank_first bs) (row_again bs (All-tail (λ b. b < 256) b bs h))
+bytes_again (b ∷ bs) h = word_then b (flat_map (space_before hex_text) bs) bs (All-head (λ b. b < 256) b bs h) (blank_first bs) (row_again bs (All-tail (λ b. b < 256) b bs h))
 
 pub printed_again : (n : ℕ) → n < number_limit → number number_limit (decimal n) ≡ Some n
 printed_again n lt = number_some number_limit (decimal n) (decimal_nonempty n lt) ∙ ap (below number_limit) (number_again n lt) ∙ below_some number_limit n lt

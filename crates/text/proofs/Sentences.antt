@@ -1,5 +1,5 @@
 -- What lines say, by the grammar.
-use Rattle.std.proofs.Common.{◌≡◌, ℕ, Bool, true, false, cond, List, [], ◌∷◌, ◌++◌, codes, Some, None, Option, sym, refl, ap, ap₂, subst, arith}
+use Rattle.std.proofs.Common.{◌≡◌, ℕ, ◌<◌, Bool, true, false, cond, List, [], ◌∷◌, ◌++◌, length, codes, Some, None, Option, sym, refl, ap, ◌∙◌, ap₂, subst, arith}
 use Rattle.std.specs.List.{AllZip}
 use Rattle.std.specs.Option.{option_map}
 use Rattle.std.specs.Str.{bytes_eq}
@@ -8,7 +8,7 @@ use Rattle.std.proofs.lemmas.Slice.Eq.{bytes_eq-Decides}
 use Rattle.text.specs.inner.Figures.{both, number, numbers, word_bytes, bytes_of, all_of}
 use Rattle.text.specs.Grammar.{IsNumber, HexWords, no_word, word, LineMeans, blank_line, comment_line, paper_line, seals_line, trusted_line, piece_line, chain_line}
 use Rattle.text.specs.Meaning.{Meaning, nothing, paper, seals, trusted, piece, chain, mark_limit, number_limit, meaning}
-use Rattle.text.specs.inner.Saying.{comment, key_of, only_number, day_of, chain_of, piece_of, rest_says, words_say, StoredBehind, StoredWords}
+use Rattle.text.specs.inner.Saying.{comment, key_of, only_number, day_of, chain_of, piece_of, rest_says, words_say}
 use Rattle.text.specs.Promise.{MeaningStand}
 use Rattle.text.specs.Reading.{StoresWords, stores_paper, stores_seals, stores_trusted, stores_path}
 use Rattle.text.specs.Tokens.{words}
@@ -163,24 +163,37 @@ words_only_say ws m (trusted_line {words = vs} {marks = ns} h) = ap (option_map 
 words_only_say ws m (piece_line {p = p} {words = vs} {paper = n} {path = ns} h k) = ap₂ (both piece) (decimal_only number_limit p n h) (numbers_only number_limit vs ns k)
 words_only_say ws m (chain_line {a = a} {d = d} {first = n} {day = k} h i) = ap₂ (both chain) (decimal_only number_limit a n h) (decimal_only number_limit d k i)
 
--- words to be stored, behind the first word
-stored_behind : (w : List ℕ) (ws : List (List ℕ)) (k : Key) → KeyWord w k → StoredBehind k ws → StoresWords (w ∷ ws)
-stored_behind w ws k (a_comment text) h = absurd h
-stored_behind w [] k a_paper h = absurd (omega arith)
-stored_behind w (v ∷ ws) k a_paper h = stores_paper v ws
-stored_behind w [] k some_seals h = absurd (omega arith)
-stored_behind w (v ∷ ws) k some_seals h = stores_seals v ws
-stored_behind w [] k some_trusted h = absurd (omega arith)
-stored_behind w (v ∷ ws) k some_trusted h = stores_trusted v ws
-stored_behind w [] k a_piece h = absurd (omega arith)
-stored_behind w (p ∷ []) k a_piece h = absurd (omega arith)
-stored_behind w (p ∷ (v ∷ ws)) k a_piece h = stores_path p v ws
-stored_behind w ws k a_chain h = absurd h
-stored_behind w ws k (another v) h = absurd h
+-- behind a first word of this kind stand words to be stored
+abbrev StoredBehind : Key → List (List ℕ) → Type 0
+StoredBehind Comment ws = ⊥
+StoredBehind Paper ws = 0 < length ws
+StoredBehind Seals ws = 0 < length ws
+StoredBehind Trusted ws = 0 < length ws
+StoredBehind Piece ws = 1 < length ws
+StoredBehind Chain ws = ⊥
+StoredBehind Other ws = ⊥
 
-pub stored : (ws : List (List ℕ)) → StoredWords ws → StoresWords ws
-stored [] h = absurd h
-stored (w ∷ ws) h = stored_behind w ws (key_of w) (key_word w) h
+stores : (w : List ℕ) (ws : List (List ℕ)) (k : Key) → KeyWord w k → StoredBehind k ws → StoresWords (w ∷ ws)
+stores w ws k (a_comment text) h = absurd h
+stores w [] k a_paper h = absurd (omega arith)
+stores w (v ∷ ws) k a_paper h = stores_paper v ws
+stores w [] k some_seals h = absurd (omega arith)
+stores w (v ∷ ws) k some_seals h = stores_seals v ws
+stores w [] k some_trusted h = absurd (omega arith)
+stores w (v ∷ ws) k some_trusted h = stores_trusted v ws
+stores w [] k a_piece h = absurd (omega arith)
+stores w (p ∷ []) k a_piece h = absurd (omega arith)
+stores w (p ∷ (v ∷ ws)) k a_piece h = stores_path p v ws
+stores w ws k a_chain h = absurd h
+stores w ws k (another v) h = absurd h
+
+-- a line by its first word
+module _ (line ws : List (List ℕ)) (w : List ℕ) (k : Key) (is : line ≡ w ∷ ws) (key : key_of w ≡ k) where
+  pub said_behind : words_say line ≡ rest_says k ws
+  said_behind = ap words_say is ∙ ap (λ j. rest_says j ws) key
+
+  pub stored_behind : StoredBehind k ws → StoresWords line
+  stored_behind h = subst StoresWords (sym is) (stores w ws k (subst (KeyWord w) key (key_word w)) h)
 
 pub meaning_stand : MeaningStand
 unfolding meaning

@@ -1,5 +1,5 @@
 -- Texts read back: each tells what it was written of, and what stands behind it.
-use Rattle.std.proofs.Common.{◌≡◌, ℕ, ◌+◌, ◌*◌, ◌/◌, ◌%◌, ◌<◌, ◌≤◌, cond, List, [], ◌∷◌, ◌++◌, length, replicate, codes, decimal, zero, suc, sym, refl, ap, ◌∙◌, subst, ⊎_elim, ◌⊎◌, inl, inr, append_assoc, arith}
+use Rattle.std.proofs.Common.{◌≡◌, ℕ, ◌+◌, ◌*◌, ◌/◌, ◌%◌, ◌<◌, ◌≤◌, cond, List, [], ◌∷◌, ◌++◌, length, replicate, codes, decimal, zero, suc, sym, refl, ap, ◌∙◌, subst, ⊎_elim, ◌⊎◌, inl, inr, append_assoc, append-nil, arith}
 use Rattle.std.specs.List.{flat_map, All}
 use Rattle.std.specs.Char.{digit_char}
 use Rattle.std.specs.Option.{unwrap_or}
@@ -7,8 +7,8 @@ use Rattle.std.proofs.lemmas.List.Elements.{All-head, All-tail}
 use Rattle.std.proofs.lemmas.Fmt.{decimal_by_steps, decimal_nonempty, decimal_injective}
 use Rattle.std.proofs.lemmas.Bool.{lt-ltb, le-ltb, cases_lt}
 use Rattle.text.specs.Meaning.{number_limit}
-use Rattle.text.specs.Texts.{line_feed, blank_before, hex_text, spaced, indent, chain_text, refusal_text, ill_text, bytes_text}
-use Rattle.text.specs.Promise.{ElementLine, figures, none, ill, refusal, TellsLine, AnswersStand}
+use Rattle.text.specs.Texts.{line_feed, space_before, hex_text, spaced, indent, chain_text, rejection_text, ill_text, bytes_text}
+use Rattle.text.specs.Promise.{ElementLine, figures, none, ill, rejection, TellsLine, AnswersStand}
 
 -- neither a blank nor the end of a line
 abbrev pub Solid : List ℕ → Type 0
@@ -35,7 +35,7 @@ split (c ∷ a) (d ∷ b) r s ha hb hr hs e =
 module _ (text : ℕ → List ℕ) (P : ℕ → Type 0) (solid : (n : ℕ) → P n → Solid (text n)) (some : (n : ℕ) → P n → 0 < length (text n)) (tells : (m n : ℕ) → P m → P n → text m ≡ text n → m ≡ n) where
   -- the figures behind the first
   behind : (ns r : List ℕ) → List ℕ
-  behind ns r = flat_map (blank_before text) ns ++ 10 ∷ r
+  behind ns r = flat_map (space_before text) ns ++ 10 ∷ r
 
   breaks : (ns r : List ℕ) → Breaks (behind ns r)
   unfolding behind
@@ -53,7 +53,7 @@ module _ (text : ℕ → List ℕ) (P : ℕ → Type 0) (solid : (n : ℕ) → P
   figures_behind [] (n ∷ ns) r s hm hn e = let z : ◌≡◌ {A = ℕ} 10 32 = cc in absurd (omega arith)
   figures_behind (m ∷ ms) [] r s hm hn e = let z : ◌≡◌ {A = ℕ} 32 10 = cc in absurd (omega arith)
   figures_behind (m ∷ ms) (n ∷ ns) r s hm hn e =
-      let tail : (text m ++ flat_map (blank_before text) ms) ++ 10 ∷ r ≡ (text n ++ flat_map (blank_before text) ns) ++ 10 ∷ s = cc in
+      let tail : (text m ++ flat_map (space_before text) ms) ++ 10 ∷ r ≡ (text n ++ flat_map (space_before text) ns) ++ 10 ∷ s = cc in
       let first = one_figure m n ms ns r s (All-head P m ms hm) (All-head P n ns hn) (sym (append_assoc (text m) _ (10 ∷ r)) ∙ tail ∙ append_assoc (text n) _ (10 ∷ s)) in
       let more = figures_behind ms ns r s (All-tail P m ms hm) (All-tail P n ns hn) first.1 in
       (λ i. first.0 i ∷ more.0 i, more.1)
@@ -163,8 +163,8 @@ last_told m n r s hm hn e =
 ill_told : (m n : ℕ) (r s : List ℕ) → m < number_limit → n < number_limit → ill_text m ++ r ≡ ill_text n ++ s → (m ≡ n) × (r ≡ s)
 ill_told m n r s hm hn e = last_told m n r s hm hn cc
 
-refusal_told : (k m l n : ℕ) (r s : List ℕ) → k < number_limit → m < number_limit → l < number_limit → n < number_limit → refusal_text k m ++ r ≡ refusal_text l n ++ s → (k ≡ l) × (m ≡ n) × (r ≡ s)
-refusal_told k m l n r s hk hm hl hn e =
+rejection_told : (k m l n : ℕ) (r s : List ℕ) → k < number_limit → m < number_limit → l < number_limit → n < number_limit → rejection_text k m ++ r ≡ rejection_text l n ++ s → (k ≡ l) × (m ≡ n) × (r ≡ s)
+rejection_told k m l n r s hk hm hl hn e =
     let at_place = λ (p : ℕ). codes " at " ++ (decimal p ++ line_feed) in
     let after : (decimal k ++ at_place m) ++ r ≡ (decimal l ++ at_place n) ++ s = cc in
     let first = number_told k l (at_place m ++ r) (at_place n ++ s) hk hl (omega arith) (omega arith) (sym (append_assoc (decimal k) (at_place m) r) ∙ after ∙ append_assoc (decimal l) (at_place n) s) in
@@ -181,19 +181,19 @@ module _ (limit : ℕ) (figures_text : List ℕ → List ℕ) (low : (ns r : Lis
   line_told (figures ms) (figures ns) r s ha hb e = let h = told ms ns r s ha hb e in (ap figures h.0, h.1)
   line_told (figures ms) none r s ha hb e = absurd (no_word ms r 110 _ ha (omega arith) e)
   line_told (figures ms) (ill at) r s ha hb e = absurd (no_word ms r 105 _ ha (omega arith) e)
-  line_told (figures ms) (refusal number place) r s ha hb e = absurd (no_word ms r 114 _ ha (omega arith) e)
+  line_told (figures ms) (rejection number place) r s ha hb e = absurd (no_word ms r 114 _ ha (omega arith) e)
   line_told none (figures ns) r s ha hb e = absurd (no_word ns s 110 _ hb (omega arith) (sym e))
   line_told none none r s ha hb e = (refl, cc)
   line_told none (ill at) r s ha hb e = let z : ◌≡◌ {A = ℕ} 110 105 = cc in absurd (omega arith)
-  line_told none (refusal number place) r s ha hb e = let z : ◌≡◌ {A = ℕ} 110 114 = cc in absurd (omega arith)
+  line_told none (rejection number place) r s ha hb e = let z : ◌≡◌ {A = ℕ} 110 114 = cc in absurd (omega arith)
   line_told (ill at) (figures ns) r s ha hb e = absurd (no_word ns s 105 _ hb (omega arith) (sym e))
   line_told (ill at) none r s ha hb e = let z : ◌≡◌ {A = ℕ} 105 110 = cc in absurd (omega arith)
   line_told (ill m) (ill n) r s ha hb e = let h = ill_told m n r s ha hb e in (ap ill h.0, h.1)
-  line_told (ill at) (refusal number place) r s ha hb e = let z : ◌≡◌ {A = ℕ} 105 114 = cc in absurd (omega arith)
-  line_told (refusal number place) (figures ns) r s ha hb e = absurd (no_word ns s 114 _ hb (omega arith) (sym e))
-  line_told (refusal number place) none r s ha hb e = let z : ◌≡◌ {A = ℕ} 114 110 = cc in absurd (omega arith)
-  line_told (refusal number place) (ill at) r s ha hb e = let z : ◌≡◌ {A = ℕ} 114 105 = cc in absurd (omega arith)
-  line_told (refusal k m) (refusal l n) r s ha hb e = let h = refusal_told k m l n r s ha.0 ha.1 hb.0 hb.1 e in (λ i. refusal (h.0 i) (h.1 i), h.2)
+  line_told (ill at) (rejection number place) r s ha hb e = let z : ◌≡◌ {A = ℕ} 105 114 = cc in absurd (omega arith)
+  line_told (rejection number place) (figures ns) r s ha hb e = absurd (no_word ns s 114 _ hb (omega arith) (sym e))
+  line_told (rejection number place) none r s ha hb e = let z : ◌≡◌ {A = ℕ} 114 110 = cc in absurd (omega arith)
+  line_told (rejection number place) (ill at) r s ha hb e = let z : ◌≡◌ {A = ℕ} 114 105 = cc in absurd (omega arith)
+  line_told (rejection k m) (rejection l n) r s ha hb e = let h = rejection_told k m l n r s ha.0 ha.1 hb.0 hb.1 e in (λ i. rejection (h.0 i) (h.1 i), h.2)
 
 decimal_low : (n : ℕ) → n < number_limit → Low (decimal n)
 unfolding Numerals
@@ -203,13 +203,20 @@ hex_low : (b : ℕ) → b < 256 → Low (hex_text b)
 unfolding Low
 hex_low b lt = elim (digit_is (b / 16)) [ inl h ↦ omega arith | inr h ↦ omega arith ]
 
-chain_told : (ms ns r s : List ℕ) → All (λ n. n < number_limit) ms → All (λ n. n < number_limit) ns → chain_text ms ++ r ≡ chain_text ns ++ s → (ms ≡ ns) × (r ≡ s)
+pub chain_told : (ms ns r s : List ℕ) → All (λ n. n < number_limit) ms → All (λ n. n < number_limit) ns → chain_text ms ++ r ≡ chain_text ns ++ s → (ms ≡ ns) × (r ≡ s)
 unfolding Numerals
 chain_told ms ns r s = row_told decimal (λ n. n < number_limit) (λ n h. (numerals n h).0) (λ n h. decimal_nonempty n h) (λ m n h k e. decimal_injective m n h k e) ms ns r s
 
+chain_low : (ns r : List ℕ) → All (λ n. n < number_limit) ns → Low (chain_text ns ++ r)
+chain_low ns r h = row_low decimal (λ n. n < number_limit) decimal_low ns r h
+
+-- the papers of a chain print as no word
+pub no_chain : (ns : List ℕ) (b : ℕ) (t : List ℕ) → All (λ n. n < number_limit) ns → 105 ≤ b → chain_text ns ≡ b ∷ t → ⊥
+no_chain ns b t h high e = no_word number_limit chain_text chain_low chain_told ns [] b t h high (append-nil (chain_text ns) ∙ e)
+
 pub answers_stand : AnswersStand
 answers_stand = record {
-  chains = line_told number_limit chain_text (λ ns r h. row_low decimal (λ n. n < number_limit) decimal_low ns r h) chain_told;
+  chains = line_told number_limit chain_text chain_low chain_told;
   bytes = line_told 256 bytes_text (λ ns r h. row_low hex_text (λ n. n < 256) hex_low ns r h) (λ ms ns r s h k e. bytes_told ms ns r s e);
   elements = element_line;
 }

@@ -2,16 +2,11 @@
 use Rattle.std.specs.Prelude.{ℕ, ◌<◌, ◌≡◌, ◌↔◌, ◌⊎◌, Bool, false, true, List, [], ◌∷◌, ◌++◌, length, decimal, Option, Some}
 use Rattle.std.specs.List.{All}
 use Rattle.std.specs.Option.{unwrap_or}
-use Rattle.text.specs.Texts.{hex_text, spaced, chain_text, none_text, refusal_text, ill_text, bytes_text, element_text}
+use Rattle.text.specs.Texts.{hex_text, spaced, chain_text, none_text, rejection_text, ill_text, bytes_text, element_text}
 use Rattle.text.specs.inner.Figures.{number, word_bytes}
 use Rattle.text.specs.Grammar.{IsNumber, HexWord, HexWords, LineMeans}
 use Rattle.text.specs.Meaning.{Meaning, meaning, number_limit}
 use Rattle.text.specs.Tokens.{blank, line_end, words, lines}
-
--- a test has the same answer at every byte
-abbrev pub Every : (ℕ → Bool) → Bool → List ℕ → Type 0
-Every test t [] = Unit {0}
-Every test t (b ∷ bs) = (test b ≡ t) × Every test t bs
 
 -- bytes cut at an end: the segment before it and the rest behind it
 pub record EndedSegment (ends : ℕ → Bool) (bytes segment rest : List ℕ) : Type 0 where
@@ -28,7 +23,7 @@ pub record LastSegment (bytes segment : List ℕ) (others : List (List ℕ)) : T
 -- the segments of bytes: no end stands in one, and one end behind each but perhaps the last
 abbrev pub SegmentsOf : (ℕ → Bool) → List ℕ → List (List ℕ) → Type 0
 SegmentsOf ends bytes [] = bytes ≡ []
-SegmentsOf ends bytes (p ∷ ps) = Every ends false p × (((rest : List ℕ) × EndedSegment ends bytes p rest × SegmentsOf ends rest ps) ⊎ LastSegment bytes p ps)
+SegmentsOf ends bytes (p ∷ ps) = All (λ b. ends b ≡ false) p × (((rest : List ℕ) × EndedSegment ends bytes p rest × SegmentsOf ends rest ps) ⊎ LastSegment bytes p ps)
 
 -- the lines of a text are what its line feeds cut it into
 abbrev pub LinesStand : Type 0
@@ -43,14 +38,14 @@ WordEnds (b ∷ bs) = blank b ≡ true
 pub record FirstWord (line word rest : List ℕ) : Type 0 where
   pub gap : List ℕ
   pub cut : line ≡ gap ++ (word ++ rest)
-  pub blanks : Every blank true gap
+  pub blanks : All (λ b. blank b ≡ true) gap
   pub some : 0 < length word
-  pub solid : Every blank false word
+  pub solid : All (λ b. blank b ≡ false) word
   pub ends : WordEnds rest
 
 -- the words of a line, with only blanks before, between and behind them
 abbrev pub WordsOf : List ℕ → List (List ℕ) → Type 0
-WordsOf line [] = Every blank true line
+WordsOf line [] = All (λ b. blank b ≡ true) line
 WordsOf line (w ∷ ws) = (rest : List ℕ) × FirstWord line w rest × WordsOf rest ws
 
 -- the words of a line are what stands between its blanks
@@ -86,21 +81,21 @@ pub data AnswerLine : Type 0 where
   figures : (numbers : List ℕ) → AnswerLine
   none : AnswerLine
   ill : (at : ℕ) → AnswerLine
-  refusal : (number place : ℕ) → AnswerLine
+  rejection : (number place : ℕ) → AnswerLine
 
 -- its text, given how a row prints
 abbrev pub line_text : (figures_text : List ℕ → List ℕ) → AnswerLine → List ℕ
 line_text figures_text (figures numbers) = figures_text numbers
 line_text figures_text none = none_text
 line_text figures_text (ill at) = ill_text at
-line_text figures_text (refusal number place) = refusal_text number place
+line_text figures_text (rejection number place) = rejection_text number place
 
 -- its numbers fit: those of a row are below a limit, any other below 2 ^ 64
 abbrev pub FitsLine : (limit : ℕ) → AnswerLine → Type 0
 FitsLine limit (figures numbers) = All (λ n. n < limit) numbers
 FitsLine limit none = Unit {0}
 FitsLine limit (ill at) = at < number_limit
-FitsLine limit (refusal number place) = (number < number_limit) × (place < number_limit)
+FitsLine limit (rejection number place) = (number < number_limit) × (place < number_limit)
 
 -- a line's text determines the line, and where it ends
 abbrev pub TellsLine : (limit : ℕ) → (figures_text : List ℕ → List ℕ) → Type 0

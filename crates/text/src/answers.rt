@@ -1,10 +1,9 @@
 // The lines of answers, appended to a vector of bytes.
-// Not `Display`: a `fmt::Error` would not say that memory ran out.
-// On an error, which is out of memory, the vector keeps its old bytes, perhaps with a part of the line behind them.
+// On an error, which is out of memory, a front of the line may stand behind the vector's old bytes.
 ghost use Rattle.std.specs.Prelude.{◌≡◌, ◌<◌, ◌∷◌, ◌++◌, ℕ, List, decimal};
 ghost use Rattle.std.specs.Char.{digit_char};
 ghost use Rattle.std.specs.Option.{option_map};
-ghost use Rattle.text.specs.Texts.{line_feed, hex_text, blank_before, spaced, indent, chain_text, none_text, refusal_text, unreadable_text, ill_text, bytes_text, element_text, AppendsText};
+ghost use Rattle.text.specs.Texts.{line_feed, hex_text, space_before, spaced, indent, chain_text, none_text, rejection_text, unreadable_text, ill_text, bytes_text, element_text, AppendsText};
 
 use itoa::Buffer;
 use std::alloc::AllocError;
@@ -75,15 +74,15 @@ impl Figure for u8 {
     }
 }
 
-// Appends a blank and a number.
+// Appends a space and a number.
 fn push_next<F: Figure>(out: &mut Vec<u8>, figure: F) -> Result<(), AllocError>
-    ensures { AppendsText result out.old.items (blank_before F.text figure) out.new.items }
+    ensures { AppendsText result out.old.items (space_before F.text figure) out.new.items }
 {
     push_text(out, b" ")?;
     figure.push(out)
 }
 
-// Appends a line of numbers, one blank between them.
+// Appends a line of numbers, one space between them.
 fn push_figures<F: Figure>(out: &mut Vec<u8>, first: F, rest: &[F]) -> Result<(), AllocError>
     ensures { AppendsText result out.old.items (spaced F.text (first ∷ rest.now) ++ line_feed) out.new.items }
 {
@@ -104,7 +103,7 @@ fn append_figures<F: Figure>(out: &mut Vec<u8>, row: &[F]) -> Result<(), AllocEr
     }
 }
 
-// Appends two blanks for each level. A loop, since twice the level may overflow a `usize`.
+// Appends two spaces for each level. A loop, since twice the level may overflow a `usize`.
 fn push_indent(out: &mut Vec<u8>, level: usize) -> Result<(), AllocError>
     ensures { AppendsText result out.old.items (indent level) out.new.items }
 {
@@ -128,7 +127,7 @@ pub fn append_bytes(out: &mut Vec<u8>, bytes: &[u8]) -> Result<(), AllocError>
     append_figures(out, bytes)
 }
 
-// `  01 41`: an element's tag and contents in base sixteen, two blanks further in for each level.
+// `  01 41`: an element's tag and contents in base sixteen, two spaces further in for each level.
 // A constructed element has no contents here: its elements follow on lines of their own.
 pub fn append_element(
     out: &mut Vec<u8>,
@@ -158,8 +157,8 @@ pub fn append_ill(out: &mut Vec<u8>, at: u64) -> Result<(), AllocError>
 }
 
 // `refused 3 at 7`: the number of a rejection and its place, by docs/FORMAT.md.
-pub fn append_refusal(out: &mut Vec<u8>, number: u64, place: u64) -> Result<(), AllocError>
-    ensures { AppendsText result out.old.items (refusal_text number place) out.new.items }
+pub fn append_rejection(out: &mut Vec<u8>, number: u64, place: u64) -> Result<(), AllocError>
+    ensures { AppendsText result out.old.items (rejection_text number place) out.new.items }
 {
     push_number(out, b"refused ", number)?;
     push_number(out, b" at ", place)?;
@@ -170,5 +169,5 @@ pub fn append_refusal(out: &mut Vec<u8>, number: u64, place: u64) -> Result<(), 
 pub fn append_unreadable(out: &mut Vec<u8>, line: u64) -> Result<(), AllocError>
     ensures { AppendsText result out.old.items (unreadable_text line) out.new.items }
 {
-    append_refusal(out, UNREADABLE, line)
+    append_rejection(out, UNREADABLE, line)
 }

@@ -2,7 +2,7 @@
 ghost use Rattle.std.specs.Prelude.{◌≡◌, ◌<◌, length};
 ghost use Rattle.std.specs.Option.{option_map};
 ghost use Rattle.text.specs.Meaning.{meaning, says};
-ghost use Rattle.text.specs.inner.Saying.{key_of, only_number, day_of, chain_of, piece_of, words_say, StoredWords};
+ghost use Rattle.text.specs.inner.Saying.{key_of, only_number, day_of, chain_of, piece_of, words_say};
 ghost use Rattle.text.specs.Reading.{ReadsAs, StoresWords};
 ghost use Rattle.text.specs.Tokens.{words as words_of};
 
@@ -11,7 +11,7 @@ use crate::figures::{parse_number, read_bytes, read_marks, read_numbers};
 use crate::tokens::Words;
 use std::alloc::Global;
 
-// What a line says; the lines stand in docs/FORMAT.md. Papers are counted from 0; a day is a number as in the permits.
+// What a line says; the lines stand in docs/FORMAT.md. Papers are counted from 0; numbers of papers, indices and days are below 2^64.
 #[derive(Drop)]
 pub enum Command {
     // A blank line or a comment.
@@ -28,7 +28,7 @@ pub enum Command {
     Chain { first: u64, day: u64 },
 }
 
-// The kind of a line, by its first word.
+// What a line is about, by its first word.
 #[derive(Clone, Copy)]
 enum Key {
     Comment,
@@ -40,7 +40,7 @@ enum Key {
     Other,
 }
 
-// The kind of the line that begins with a word.
+// What the line that begins with a word is about.
 fn read_key(word: &[u8]) -> Key
     ensures { result ≡ key_of word.now }
 {
@@ -97,7 +97,7 @@ fn read_piece(heap: Global, mut words: Words<'_>) -> Result<Command, LineError>
 
 // The command that words are.
 fn read_words(heap: Global, mut words: Words<'_>) -> Result<Command, LineError>
-    ensures { ReadsAs says result (words_say (words_of words.entry.rest.now)) (StoredWords (words_of words.entry.rest.now)) }
+    ensures { ReadsAs says result (words_say (words_of words.entry.rest.now)) (StoresWords (words_of words.entry.rest.now)) }
 {
     let Some(word) = words.next() else {
         return Ok(Command::Nothing);

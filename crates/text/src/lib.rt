@@ -10,7 +10,7 @@ mod figures;
 mod tokens;
 
 pub use answers::{
-    append_bytes, append_chain, append_element, append_ill, append_none, append_refusal,
+    append_bytes, append_chain, append_element, append_ill, append_none, append_rejection,
     append_unreadable,
 };
 pub use command::{Command, read_line};

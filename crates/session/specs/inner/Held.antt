@@ -1,11 +1,13 @@
 -- What a book in memory holds.
-use Rattle.std.specs.Prelude.{ℕ, cond, List, [], ◌∷◌, ◌++◌, map, vec_items}
+use Rattle.std.specs.Prelude.{◌≡◌, ℕ, ◌≤◌, List, ◌++◌, length, map, slice_index, vec_items}
 use Rattle.std.specs.List.{All}
 use Rattle.element.specs.Indexed.{IndexOf}
 use Rattle.trust.specs.Chains.{Certificate}
 use Rattle.session.specs.declared.Book.{Book}
 use Rattle.session.specs.declared.papers.Paper.{Paper}
-use Rattle.session.specs.Books.{Brought, Permit, paper_at}
+use Rattle.certificate.specs.Permits.{Permit}
+use Rattle.chain.specs.Inputs.{certificate_at}
+use Rattle.session.specs.Books.{Brought, paper_at}
 
 -- what one brings, and another after it
 abbrev pub added : Brought → Brought → Brought
@@ -26,9 +28,11 @@ AllIndexed b = All Indexed (vec_items b.papers)
 abbrev pub held : Book → Brought
 held b = record { papers = map paper_bytes (vec_items b.papers); seals = vec_items b.seals; trusted = vec_items b.trusted }
 
--- a certificate's six numbers
-abbrev pub six : Certificate → List ℕ
-six c = c.subject ∷ (c.issuer ∷ (c.not_before ∷ (c.not_after ∷ (cond c.may_issue 1 0 ∷ (c.path_len ∷ [])))))
+-- six numbers as the input of a pool has them: they say this certificate, and the flag is 0 or 1
+pub record SixNumbers (six : List ℕ) (c : Certificate) : Type 0 where
+  pub size : length six ≡ 6
+  pub certificate : certificate_at six 0 ≡ c
+  pub flag : slice_index six 4 ≤ 1
 
 -- there are no papers, or the first is no permit
 abbrev pub NoFirstPermit : (papers : List (List ℕ)) → Type 0

@@ -1,13 +1,13 @@
 -- Answers put into vectors and writers.
 use Rattle.std.specs.Prelude.{◌≡◌, ℕ, List, ◌++◌, Option, Ok, Err, Result, MatchResult}
 use Rattle.std.specs.Io.KnownBytes as io
-use Rattle.text.specs.Texts.{StartsWith}
+use Rattle.text.specs.Texts.{AppendsText}
 use Rattle.session.specs.declared.error.AnswerError.{AnswerError}
 use Rattle.session.specs.declared.error.AnswerError.TheVariants.{Memory, Write}
 
--- a text that is an answer is put behind the old bytes; if memory fails, the old bytes still stand in front
+-- a text that is an answer is appended; out of memory, a front of it
 abbrev pub Puts : {T E : Type 0} → (is_answer : List ℕ → Type 0) → Result T E → (old new : List ℕ) → Type 0
-Puts A r old new = MatchResult r (λ _. (text : List ℕ) × A text × (new ≡ old ++ text)) (λ _. StartsWith old new)
+Puts A r old new = (text : List ℕ) × A text × AppendsText r old text new
 
 -- all of the bytes are written, or after an error a front of them
 abbrev pub WritesFront : {T E : Type 0} → Result T E → (bytes : List ℕ) → (old new : Option (List ℕ)) → Type 0

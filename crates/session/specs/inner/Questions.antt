@@ -10,12 +10,12 @@ use Rattle.session.specs.Books.{Brought, brings, brought, paper_at, Numbers}
 use Rattle.session.specs.Answers.{PaperAnswer, PieceAnswer, ChainAnswer}
 use Rattle.session.specs.inner.Held.{AllIndexed, held}
 
--- paper i to be printed, an element by its path, a chain, a line that can't be read
+-- paper i to be printed, an element by its path, a chain, line n that can't be read
 pub data Asked : Type 0 where
   print : (number : ℕ) → Asked
   element : (paper : ℕ) → (path : List ℕ) → Asked
   find_chain : (first day : ℕ) → Asked
-  unreadable : (line : ℕ) → Asked
+  unreadable : (n : ℕ) → Asked
 
 -- what a question in memory asks
 abbrev pub asked : Question → Asked
@@ -25,7 +25,7 @@ asked (question.Chain a d) = find_chain a d
 asked (question.Unreadable n) = unreadable n
 
 -- the question of a line, if it asks one, by its number, what it says and how many papers are before it
-abbrev pub asks : (papers line : ℕ) → Option Meaning → List Asked
+abbrev pub asks : (k n : ℕ) → Option Meaning → List Asked
 asks k n None = unreadable n ∷ []
 asks k n (Some nothing) = []
 asks k n (Some (paper bytes)) = print k ∷ []
@@ -35,16 +35,16 @@ asks k n (Some (piece p path)) = element p path ∷ []
 asks k n (Some (chain first day)) = find_chain first day ∷ []
 
 -- the questions of lines; the first of the lines has the number n, and k papers come before it
-unfoldable pub all_asked : (papers line : ℕ) → List (List ℕ) → List Asked
+unfoldable pub all_asked : (k n : ℕ) → List (List ℕ) → List Asked
 all_asked k n [] = []
 all_asked k n (l ∷ ls) = asks k n (meaning l) ++ all_asked (k + length (brings (meaning l)).papers) (suc n) ls
 
 -- the answer to a question
-abbrev pub AnsweredAsked : Brought → (numbers : List ℕ) → Asked → (text : List ℕ) → Type 0
-AnsweredAsked b numbers (print n) text = PaperAnswer (paper_at b.papers n) text
-AnsweredAsked b numbers (element p path) text = PieceAnswer b.papers p path text
-AnsweredAsked b numbers (find_chain first day) text = ChainAnswer b numbers first day text
-AnsweredAsked b numbers (unreadable n) text = text ≡ unreadable_text n
+abbrev pub AnsweredAsked : Brought → (numbers : List ℕ) → Asked → (answer : List ℕ) → Type 0
+AnsweredAsked b numbers (print n) answer = PaperAnswer (paper_at b.papers n) answer
+AnsweredAsked b numbers (element p path) answer = PieceAnswer b.papers p path answer
+AnsweredAsked b numbers (find_chain first day) answer = ChainAnswer b numbers first day answer
+AnsweredAsked b numbers (unreadable n) answer = answer ≡ unreadable_text n
 
 -- a book whose papers have their indexes, and a question: a paper that it asks to print is there
 pub record Answerable (b : Book) (q : Question) : Type 0 where

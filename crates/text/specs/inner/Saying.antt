@@ -1,5 +1,5 @@
 -- What a line of words says, read word by word.
-use Rattle.std.specs.Prelude.{ℕ, Bool, cond, List, [], ◌∷◌, Some, None, codes, Option, ◌==◌, slice_index, ◌<◌, length}
+use Rattle.std.specs.Prelude.{ℕ, Bool, cond, List, [], ◌∷◌, Some, None, codes, Option, ◌==◌, slice_index}
 use Rattle.std.specs.Option.{option_map}
 use Rattle.std.specs.Str.{bytes_eq}
 use Rattle.text.specs.Grammar.{Meaning, nothing, paper, seals, trusted, piece, chain, mark_limit, number_limit}
@@ -11,7 +11,7 @@ use Rattle.text.specs.declared.command.Key.TheVariants.{Comment, Paper, Seals, T
 abbrev pub comment : List ℕ → Bool
 comment w = slice_index w 0 == 35
 
--- the kind of a line, by its first word
+-- what a line is about, by its first word
 abbrev pub key_of : List ℕ → Key
 key_of w = cond (comment w) Comment (cond (bytes_eq w (codes "paper")) Paper (cond (bytes_eq w (codes "seals")) Seals (cond (bytes_eq w (codes "trusted")) Trusted (cond (bytes_eq w (codes "piece")) Piece (cond (bytes_eq w (codes "chain")) Chain Other)))))
 
@@ -50,18 +50,3 @@ rest_says Other ws = None
 abbrev pub words_say : List (List ℕ) → Option Meaning
 words_say [] = Some nothing
 words_say (w ∷ ws) = rest_says (key_of w) ws
-
--- behind a first word of this kind stand words to be stored
-abbrev pub StoredBehind : Key → List (List ℕ) → Type 0
-StoredBehind Comment ws = ⊥
-StoredBehind Paper ws = 0 < length ws
-StoredBehind Seals ws = 0 < length ws
-StoredBehind Trusted ws = 0 < length ws
-StoredBehind Piece ws = 1 < length ws
-StoredBehind Chain ws = ⊥
-StoredBehind Other ws = ⊥
-
--- some words are to be stored
-abbrev pub StoredWords : List (List ℕ) → Type 0
-StoredWords [] = ⊥
-StoredWords (w ∷ ws) = StoredBehind (key_of w) ws

@@ -3,7 +3,6 @@ use Rattle.element.specs.Located.{Piece}
 use Rattle.session.specs.Answers.{PieceAnswer, part_text, there, no_paper}
 use Rattle.session.specs.inner.Held.{held}
 use Rattle.session.proofs.Chaining.{papers_count, paper_at}
-use Rattle.session.proofs.Putting.{puts}
 use Rattle.session.proofs.Book.answer_piece.Goals as goal
 use Rattle.session.proofs.Book.answer_piece.Goals.{After-piece}
 
@@ -19,10 +18,10 @@ at_paper c o piece =
 pub returns-in_default : goal.returns-in_default
 returns-in_default c =
     let papers = c.args.self.now.papers in
-    puts (PieceAnswer (held c.args.self.now).papers c.args.paper c.args.path.now) _ _ _ _ (no_paper (omega (arith, c.in_default.ensures.lookup.3, ap length c.deref.ensures.value, papers.ok.0, papers_count papers))) c.refuse.ensures
+    (_, no_paper (omega (arith, c.in_default.ensures.lookup.3, ap length c.deref.ensures.value, papers.ok.0, papers_count papers)), c.reject.ensures)
 
 pub returns-in-Some-piece : goal.returns-in-Some-piece
-returns-in-Some-piece c = puts (PieceAnswer (held c.args.self.now).papers c.args.paper c.args.path.now) _ _ _ _ (at_paper (goal.at.returns-in-Some-piece c).After-piece (Some c.in-Some-piece.part.now) c.in-Some-piece.ensures) c.append_bytes.ensures
+returns-in-Some-piece c = (_, at_paper (goal.at.returns-in-Some-piece c).After-piece (Some c.in-Some-piece.part.now) c.in-Some-piece.ensures, c.append_bytes.ensures)
 
 pub returns-in-None : goal.returns-in-None
-returns-in-None c = puts (PieceAnswer (held c.args.self.now).papers c.args.paper c.args.path.now) _ _ _ _ (at_paper (goal.at.returns-in-None c).After-piece None c.in-None.ensures) c.append_none.ensures
+returns-in-None c = (_, at_paper (goal.at.returns-in-None c).After-piece None c.in-None.ensures, c.append_none.ensures)

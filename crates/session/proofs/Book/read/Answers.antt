@@ -7,7 +7,7 @@ use Rattle.session.specs.Books.{Numbers, brought}
 use Rattle.session.specs.inner.Held.{held, paper_bytes}
 use Rattle.session.specs.inner.Questions.{asked, all_asked, kept, unreadable}
 use Rattle.session.proofs.Gathered.{added_none, gathered_more, gathered_all, asks_same}
-use Rattle.session.proofs.Quiet.{first_quiet, rest_quiet, stores_quiet, quiet_papers, no_first_permit}
+use Rattle.session.proofs.Quiet.{first_quiet, rest_quiet, stores_quiet, unread_quiet, quiet_papers, no_first_permit}
 use Rattle.session.proofs.Book.read.Goals as goal
 use Rattle.session.proofs.Book.read.Goals.{After-deref}
 
@@ -29,6 +29,9 @@ loop-number-preserved c =
 
 pub returns-in-Err-Memory-clause-quiet : goal.returns-in-Err-Memory-clause-quiet
 returns-in-Err-Memory-clause-quiet c = λ q. absurd (stores_quiet _ (rw c.in-Err-Memory.field-0-is at c.in-Err-Memory.ensures) (first_quiet _ _ _ c.in-Some.ensures.steps.0 (c.loop-number.invariant.0 q)))
+
+pub returns-in_err-push-in-Err-Unreadable-clause-quiet : goal.returns-in_err-push-in-Err-Unreadable-clause-quiet
+returns-in_err-push-in-Err-Unreadable-clause-quiet c = λ q. absurd (unread_quiet _ (rw c.in-Err-Unreadable.field-0-is at c.in-Err-Unreadable.ensures) (first_quiet _ _ _ c.in-Some.ensures.steps.0 (c.loop-number.invariant.0 q)))
 
 -- the whole text is gathered
 all_read : (c : After-deref) → (held c.loop-number.book ≡ brought c.args.text.now) × (kept c.loop-number.book ≡ all_asked 0 0 (lines c.args.text.now))

@@ -1,7 +1,7 @@
 use Rattle.std.proofs.Common.{◌≡◌, [], map, sym, ap, ◌∙◌, subst, arith}
 use Rattle.std.proofs.lemmas.List.{get_or-map, length-map}
-use Rattle.certificate.specs.Permits.{certificate_of}
-use Rattle.session.specs.Books.{Permit, paper_at}
+use Rattle.certificate.specs.Permits.{Permit, certificate_of}
+use Rattle.session.specs.Books.{paper_at}
 use Rattle.session.specs.inner.Held.{paper_bytes}
 use Rattle.session.proofs.Sixes.{counted_none, counted_more, counted_end}
 use Rattle.session.proofs.numbering.numbers_of.Goals as goal
@@ -17,13 +17,13 @@ loop-paper-init c = counted_none _ _ c.new-numbers.ensures.items
 pub loop-paper-preserved : goal.loop-paper-preserved
 loop-paper-preserved c =
     counted_more _ _ _ _ _ c.loop-paper.invariant
-    (subst (λ b. Permit b (certificate_of c.in-Some.certificate)) (turn (goal.at.loop-paper-preserved c).After-bytes) (record { range = c.in-Some.ensures.0; is = c.in-Some.ensures.1 }))
+    (subst (λ b. Permit b (certificate_of c.in-Some.certificate)) (turn (goal.at.loop-paper-preserved c).After-bytes) c.in-Some.ensures)
     c.in_ok-push_six.ensures
 
 pub returns-in_default-clause-numbers : goal.returns-in_default-clause-numbers
 returns-in_default-clause-numbers c =
     counted_end _ _ _ c.loop-paper.invariant (omega (arith, length-map c.args.papers.now paper_bytes))
-    (λ less x p. c.in_default.ensures x p.range (p.is ∙ sym (turn (goal.at.returns-in_default-clause-numbers c).After-bytes)))
+    (λ less x p. c.in_default.ensures x (subst (λ b. Permit b x) (sym (turn (goal.at.returns-in_default-clause-numbers c).After-bytes)) p))
 
 pub returns-clause-numbers : goal.returns-clause-numbers
 returns-clause-numbers c =

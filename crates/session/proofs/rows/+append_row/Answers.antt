@@ -2,7 +2,7 @@ use Rattle.std.proofs.Common.{length, sym, ap, subst, arith}
 use Rattle.format.specs.Elements.{Reads}
 use Rattle.element.specs.Cursors.{ahead}
 use Rattle.element.specs.Limits.{longest}
-use Rattle.session.proofs.Showing.{printed_all, printed_plain, printed_nested, shorter}
+use Rattle.session.proofs.Showing.{printed_all, printed_plain, plain_fails, printed_nested, heading_fails, nested_fails, shorter}
 use Rattle.session.proofs.rows.+append_row.Goals as goal
 
 pub loop-element-preserved-in-Continue-1 : goal.loop-element-preserved-in-Continue-1
@@ -21,8 +21,24 @@ pub loop-element-preserved : goal.loop-element-preserved
 loop-element-preserved t c =
     let (high, rest, place) = c.in-Some-row.ensures in
     let inner = c.in_ok-append_row-in-Some-row.ensures in
-    ((c.in-Some.ensures.goes.on tt).0, tt, printed_nested _ _ _ _ _ _ _ c.loop-element.invariant.2 c.in-Some.ensures.steps _ _ high c.in_ok-append_element-in-Some-row.ensures inner.front (λ d row h. inner.shown d row (subst (λ b. Reads d longest b row) (sym rest) h)))
+    ((c.in-Some.ensures.goes.on tt).0, tt, printed_nested _ _ _ _ _ _ _ c.loop-element.invariant.2 c.in-Some.ensures.steps _ _ high c.in_ok-append_element-in-Some-row.ensures (λ d row h. inner d row (subst (λ b. Reads d longest b row) (sym rest) h)))
 
-pub returns-clause-shown : goal.returns-clause-shown
-returns-clause-shown t c =
-    λ d row h. printed_all _ _ _ _ _ _ c.loop-element.invariant.2 c.in-None.ensures.steps d row (subst (λ u. Reads d longest (ahead u) row) (sym c.into_iter-element-iterator.ensures.into_iter_gives) h)
+pub returns-in_err-append_element-in-None-row : goal.returns-in_err-append_element-in-None-row
+returns-in_err-append_element-in-None-row t c = λ d row h.
+    plain_fails _ _ _ _ _ _ _ c.loop-element.invariant.2 c.in-Some.ensures.steps _ _ c.from_residual.ensures.0 c.in-None-row.ensures c.in_err-append_element-in-None-row.ensures d row
+    (subst (λ u. Reads d longest (ahead u) row) (sym c.into_iter-element-iterator.ensures.into_iter_gives) h)
+
+pub returns-in_err-append_element-in-Some-row : goal.returns-in_err-append_element-in-Some-row
+returns-in_err-append_element-in-Some-row t c = λ d row h.
+    heading_fails _ _ _ _ _ _ _ c.loop-element.invariant.2 c.in-Some.ensures.steps _ _ c.from_residual-in_err-append_element-in-Some-row.ensures.0 c.in-Some-row.ensures.0 c.in_err-append_element-in-Some-row.ensures d row
+    (subst (λ u. Reads d longest (ahead u) row) (sym c.into_iter-element-iterator.ensures.into_iter_gives) h)
+
+pub returns-in_err-append_row-in-Some-row : goal.returns-in_err-append_row-in-Some-row
+returns-in_err-append_row-in-Some-row t c = λ d row h.
+    let (high, rest, place) = c.in-Some-row.ensures in
+    nested_fails _ _ _ _ _ _ _ c.loop-element.invariant.2 c.in-Some.ensures.steps _ _ _ c.from_residual-in_err-append_row-in-Some-row.ensures.0 high c.in_ok-append_element-in-Some-row.ensures (λ e q k. c.in_err-append_row-in-Some-row.ensures e q (subst (λ b. Reads e longest b q) (sym rest) k)) d row
+    (subst (λ u. Reads d longest (ahead u) row) (sym c.into_iter-element-iterator.ensures.into_iter_gives) h)
+
+pub returns : goal.returns
+returns t c = λ d row h.
+    printed_all _ _ _ _ _ _ c.loop-element.invariant.2 c.in-None.ensures.steps d row (subst (λ u. Reads d longest (ahead u) row) (sym c.into_iter-element-iterator.ensures.into_iter_gives) h)
