@@ -10,27 +10,35 @@ use std::{env, fs};
 const VERSION: &str = "permit, proved with rattle-kit-13f logic dac8208d650f15bf\n";
 
 const HELP: &str = "permit [FILE]
+permit --help | --version
 
 Reads a text from FILE or standard input, all of it first, and answers its lines in their order.
 
-  paper HEX..      the bytes of a permit; its elements, one a line and two blanks further in for
+  paper HEX..      the bytes of a paper; its elements, one a line and two spaces further in for
                    each level, or `ill at K`: with byte K, counted from 0, nothing behind could
                    mend it; if K is how many bytes there are, the end comes too soon, and more
                    bytes could
-  seals M M ..     marks, for each paper a row: 1 where its seal under a paper is right
-  trusted M M ..   marks, one for each paper: 1 if that paper is a trust anchor
+  seals M M ..     marks, for each paper a row: 1 where its seal under a paper is right, else 0
+  trusted M M ..   marks, one for each paper: 1 if that paper is a trust anchor, else 0
   piece P W W ..   the element of paper P by the path W W .., or `none`
   chain A day D    the papers of a shortest chain from A to a trust anchor on day D, or `none`
 
-Marks have no answer, nor has a blank line or one with `#` first. Papers, elements and lines are
-counted from 0. All papers and marks count for every piece and chain, wherever they stand in
-the text.
-What can't be answered is refused, `refused N at PLACE`:
+Bytes are in base sixteen, two digits each; other numbers are decimal, marks below 256, all others
+below 2^64. Papers, elements and lines are counted from 0. Marks have no answer, nor has a blank
+line or one with `#` first. All papers and marks count for every piece and chain, wherever they
+stand in the text.
+What can't be answered is refused, `refused N at PLACE`, for the first of these that applies:
 
-  1  there is no paper, there are more than 200, or one is no permit
-  2  the seals are not one for each two papers, the trusted not one for each, or a mark is above 1
-  3  there is no such paper
-  5  the line can't be read, and is left out
+  N  why                                               PLACE
+  1  there is no paper for a chain                     0
+     there are more than 200 papers for a chain        200
+     one of them is no permit                          the first such paper
+  2  n papers have not n times n seals marks           how many seals marks there are
+     n papers have not n trusted marks                 how many trusted marks there are
+     a seals mark is above 1                           the first such, counted from 0
+     a trusted mark is above 1                         the first such, counted from 0
+  3  a chain's or a piece's paper is not there         its number
+  5  the line can't be read, and is left out           the line
 ";
 
 // What the command line asks for.

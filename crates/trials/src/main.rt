@@ -1,15 +1,20 @@
-// Tries the crates on drawn bytes and pools, against a plain reader and against all chains.
+// Tries the crates on drawn bytes and pools, against a plain reader and against all chains. With the argument `memory` it
+// calls the functions that write elements or note them instead: tests/memory/run refuses their allocations.
 #![tactic(auto)]
 
 mod bytes;
 mod draws;
 mod pools;
 mod tally;
+mod writers;
 
+use anyhow::anyhow;
 use bytes::{draw_deep, draw_long, draw_short, try_strings};
 use draws::Draws;
 use pools::try_pools;
+use std::env;
 use tally::Tally;
+use writers::try_writers;
 
 // How many strings of each kind and how many pools are tried.
 const STRINGS: usize = 5_000;
@@ -27,7 +32,8 @@ fn report(rt: &HostRuntime, kind: &str, so: &str, tally: &Tally) -> anyhow::Resu
     Ok(())
 }
 
-fn main(rt: HostRuntime) -> anyhow::Result<()> {
+// Tries drawn bytes and pools.
+fn try_draws(rt: &HostRuntime) -> anyhow::Result<()> {
     let mut draws = Draws::new();
     let tallies = [
         (
@@ -48,9 +54,17 @@ fn main(rt: HostRuntime) -> anyhow::Result<()> {
         ("pools", "with a chain", try_pools(&mut draws, POOLS)),
     ];
     for (kind, so, tally) in &tallies {
-        report(&rt, kind, so, tally)?;
+        report(rt, kind, so, tally)?;
     }
     let all = tallies.iter().all(|(_, _, tally)| tally.all());
     println!(rt; "{}", if all { "all agree" } else { "DISAGREE" })?;
     Ok(())
+}
+
+fn main(rt: HostRuntime) -> anyhow::Result<()> {
+    match env::args(&rt)?.nth(1) {
+        None => try_draws(&rt),
+        Some(word) if word.as_str() == "memory" => try_writers(&rt),
+        Some(_) => Err(anyhow!("no argument, or `memory`")),
+    }
 }
