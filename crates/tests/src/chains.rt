@@ -49,31 +49,31 @@ mod tests {
 
     #[test]
     fn second_candidate(rt: HostRuntime) {
-        assert_eq!(rt; ask(&NUMBERS, 120), (Ok(Some(3)), [0, 2, 3, EMPTY]));
+        assert!(rt; ask(&NUMBERS, 120) == (Ok(Some(3)), [0, 2, 3, EMPTY]));
     }
 
     #[test]
     fn path_length_leaves_out_the_first(rt: HostRuntime) {
-        assert_eq!(rt; ask(&with(17, 0), 120), (Ok(Some(3)), [0, 2, 3, EMPTY]));
+        assert!(rt; ask(&with(17, 0), 120) == (Ok(Some(3)), [0, 2, 3, EMPTY]));
     }
 
     #[test]
     fn path_length_too_small(rt: HostRuntime) {
-        assert_eq!(rt; ask(&with(23, 0), 120), (Ok(None), [EMPTY; 4]));
+        assert!(rt; ask(&with(23, 0), 120) == (Ok(None), [EMPTY; 4]));
     }
 
     #[test]
     fn days(rt: HostRuntime) {
-        assert_eq!(rt; ask(&NUMBERS, 99).0, Ok(None));
-        assert_eq!(rt; ask(&NUMBERS, 100).0, Ok(Some(3)));
-        assert_eq!(rt; ask(&NUMBERS, 200).0, Ok(Some(3)));
-        assert_eq!(rt; ask(&NUMBERS, 201).0, Ok(None));
+        assert!(rt; ask(&NUMBERS, 99).0 == Ok(None));
+        assert!(rt; ask(&NUMBERS, 100).0 == Ok(Some(3)));
+        assert!(rt; ask(&NUMBERS, 200).0 == Ok(Some(3)));
+        assert!(rt; ask(&NUMBERS, 201).0 == Ok(None));
     }
 
     // The days of every certificate count, not those of the first alone.
     #[test]
     fn day_of_the_anchor(rt: HostRuntime) {
-        assert_eq!(rt; ask(&with(21, 119), 120).0, Ok(None));
+        assert!(rt; ask(&with(21, 119), 120).0 == Ok(None));
     }
 
     #[test]
@@ -81,14 +81,14 @@ mod tests {
         let numbers = [1, 2, 0, 9, 1, 9, 2, 3, 0, 9, 1, 9, 3, 1, 0, 9, 1, 9];
         let mut out = [EMPTY; 3];
         let answer = find_chain(pool(3, &numbers, &[1; 9], &[0; 3]), 5, 0, &mut out);
-        assert_eq!(rt; (answer, out), (Ok(None), [EMPTY; 3]));
+        assert!(rt; (answer, out) == (Ok(None), [EMPTY; 3]));
     }
 
     #[test]
     fn trusted_by_itself(rt: HostRuntime) {
         let mut out = [EMPTY; 1];
         let answer = find_chain(pool(1, &[1, 2, 0, 9, 0, 0], &[0], &[1]), 5, 0, &mut out);
-        assert_eq!(rt; (answer, out), (Ok(Some(1)), [0]));
+        assert!(rt; (answer, out) == (Ok(Some(1)), [0]));
     }
 
     #[test]
@@ -97,7 +97,7 @@ mod tests {
         signed[3 * 4 + 2] = 0;
         let mut out = [EMPTY; 4];
         let answer = find_chain(pool(4, &NUMBERS, &signed, &TRUSTED), 120, 0, &mut out);
-        assert_eq!(rt; answer, Ok(None));
+        assert!(rt; answer == Ok(None));
     }
 
     // Whether each of these questions, an input and the certificate asked about, is rejected for this reason.
@@ -132,8 +132,8 @@ mod tests {
     fn rejected_first_and_buffer(rt: HostRuntime) {
         let mut out = [EMPTY; 2];
         let unknown = find_chain(pool(1, &[1; 6], &[1], &[1]), 5, 1, &mut out);
-        assert_eq!(rt; (unknown, out), (Err(Rejection::Unknown), [EMPTY; 2]));
+        assert!(rt; (unknown, out) == (Err(Rejection::Unknown), [EMPTY; 2]));
         let buffer = find_chain(pool(1, &[1; 6], &[1], &[1]), 5, 0, &mut out);
-        assert_eq!(rt; (buffer, out), (Err(Rejection::Buffer), [EMPTY; 2]));
+        assert!(rt; (buffer, out) == (Err(Rejection::Buffer), [EMPTY; 2]));
     }
 }

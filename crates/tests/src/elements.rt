@@ -56,7 +56,7 @@ mod tests {
         ];
         for (bytes, ill) in table {
             let verdict = ill.map_or(Verdict::Well, |at| Verdict::Ill { at });
-            assert_eq!(rt; judge(bytes), verdict);
+            assert!(rt; judge(bytes) == verdict);
         }
     }
 
@@ -81,7 +81,7 @@ mod tests {
         ];
         for (front, contents, well) in table {
             let bytes = element(heap, front, contents)?;
-            assert_eq!(rt; judge(bytes.as_slice()) == Verdict::Well, well);
+            assert!(rt; (judge(bytes.as_slice()) == Verdict::Well) == well);
         }
         Ok(())
     }
@@ -111,9 +111,9 @@ mod tests {
             (malformed, &[0], None),
         ];
         for (bytes, path, expected) in table {
-            assert_eq!(rt; piece(bytes, path), expected.map(|(part, _)| part));
+            assert!(rt; piece(bytes, path) == expected.map(|(part, _)| part));
             let span = locate(bytes, path).map(|span| (span.at, span.len));
-            assert_eq!(rt; span, expected.map(|(part, at)| (at, part.len())));
+            assert!(rt; span == expected.map(|(part, at)| (at, part.len())));
         }
     }
 
@@ -137,16 +137,16 @@ mod tests {
         append_constructed(&mut out, 128, &row)?;
         append_primitive(&mut out, 5, &[7, 8])?;
         let other = append_primitive(&mut out, 128, &[]);
-        assert_eq!(rt; other, Err(WriteError::Tag));
+        assert!(rt; other == Err(WriteError::Tag));
         let plain = append_constructed(&mut out, 5, &[]);
-        assert_eq!(rt; plain, Err(WriteError::Tag));
+        assert!(rt; plain == Err(WriteError::Tag));
         let short = append_constructed(&mut out, 128, &[5, 3, 7]);
-        assert_eq!(rt; short, Err(WriteError::Contents));
+        assert!(rt; short == Err(WriteError::Contents));
         let deep = append_constructed(&mut out, 128, nested(heap, 8)?.as_slice());
-        assert_eq!(rt; deep, Err(WriteError::Contents));
+        assert!(rt; deep == Err(WriteError::Contents));
         let long = append_primitive(&mut out, 5, element(heap, &[], 65_536)?.as_slice());
-        assert_eq!(rt; long, Err(WriteError::Length));
-        assert_eq!(rt; out.as_slice(), ROW.as_slice());
+        assert!(rt; long == Err(WriteError::Length));
+        assert!(rt; out.as_slice() == ROW.as_slice());
         Ok(())
     }
 }

@@ -22,7 +22,7 @@ mod tests {
         ];
         for bytes in table {
             let index = Index::new(rt.alloc(), bytes)?;
-            assert_eq!(rt; index.verdict(), judge(bytes));
+            assert!(rt; index.verdict() == judge(bytes));
             for first in NUMBERS {
                 for second in NUMBERS {
                     for third in NUMBERS {
@@ -30,7 +30,7 @@ mod tests {
                         for size in 0..=path.len() {
                             let path = &path[..size];
                             let there = place_and_size(locate(bytes, path));
-                            assert_eq!(rt; place_and_size(index.locate(path)), there);
+                            assert!(rt; place_and_size(index.locate(path)) == there);
                         }
                     }
                 }
@@ -52,7 +52,7 @@ mod tests {
             (&[2, 0], None),
         ];
         for (path, there) in table {
-            assert_eq!(rt; place_and_size(index.locate(path)), there);
+            assert!(rt; place_and_size(index.locate(path)) == there);
         }
         Ok(())
     }

@@ -73,7 +73,7 @@ mod tests {
                 b"\x80\x12\x01\x01\x01\x02\x01\x02\x04\x01\xc8\x03\x01\x64\x05\x01\x00\x06\x01\x00",
                 None,
             ),
-            // A mark above 1, and one of two bytes.
+            // A flag above 1, and one of two bytes.
             (
                 b"\x80\x12\x01\x01\x01\x02\x01\x02\x03\x01\x64\x04\x01\xc8\x05\x01\x02\x06\x01\x00",
                 None,
@@ -97,7 +97,7 @@ mod tests {
             ),
         ];
         for (bytes, answer) in table {
-            assert_eq!(rt; decode(bytes), answer);
+            assert!(rt; decode(bytes) == answer);
         }
     }
 
@@ -105,9 +105,9 @@ mod tests {
     fn encoded(rt: HostRuntime) -> Result<(), Fail> {
         let heap = rt.alloc();
         let sample = encode(heap, &SAMPLE)?;
-        assert_eq!(rt;
-            sample.as_slice(),
-            b"\x80\x12\x01\x01\x01\x02\x01\x02\x03\x01\x64\x04\x01\xc8\x05\x01\x00\x06\x01\x00".as_slice()
+        assert!(rt;
+            (sample.as_slice())
+                == b"\x80\x12\x01\x01\x01\x02\x01\x02\x03\x01\x64\x04\x01\xc8\x05\x01\x00\x06\x01\x00".as_slice()
         );
         for number in [0, 255, 256, 65_535, 65_536, 16_777_216, 4_294_967_295] {
             let certificate = Certificate {
@@ -119,7 +119,7 @@ mod tests {
                 path_len: number,
             };
             let bytes = encode(heap, &certificate)?;
-            assert_eq!(rt; decode(bytes.as_slice()), Some(certificate));
+            assert!(rt; decode(bytes.as_slice()) == Some(certificate));
         }
         Ok(())
     }
