@@ -8,7 +8,7 @@ ghost use Rattle.length.specs.Lengths.{front_length, ReadsLength};
 
 use std::alloc::AllocError;
 
-// A length that was read.
+// A length, as `Length::read` answers it.
 #[derive(Clone, Copy)]
 pub struct Length {
     // How many bytes the contents have, 0 to 65,535.
