@@ -81,9 +81,10 @@ reads_written row b (a_constructed {t = t} {q = q} {r = r} {len = len} {inner = 
     ]
 
 pub written_once : WrittenOnce
-written_once d m limit row w = record {
-  spelled = row_spelled row d m limit w;
+written_once d m row w = record {
+  spelled = λ limit. row_spelled row d m limit w;
   reads = record { well = w; writing = refl };
+  no_other = λ b h. sym h.writing;
   only = λ b other s h. let e = reads_written row b s d m other w h in (e, unique other row d d m m h.well w (h.writing ∙ e));
   apart = λ other v e. unique other row d d m m v w e;
 }

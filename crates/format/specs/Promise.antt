@@ -33,18 +33,24 @@ SameFrontAt depth longest =
 abbrev pub SameFront : Type 0
 SameFront = (depth longest : ℕ) → SameFrontAt depth longest
 
--- of all spellings of a row exactly one reads, the written one, and it reads as the row; no other well-formed row is written alike
+-- what is written of a row reads as the row, and no other bytes do; of all spellings of the row only the written one reads, and as no other row
 pub record OnlyWriting (depth longest : ℕ) (row : Row) : Type 0 where
-  pub spelled : Spelled row (written row)
+  -- the written bytes are one of the spellings, where no contents are longer than a length can say
+  pub spelled : longest ≤ greatest_length → Spelled row (written row)
+  -- they read as the row
   pub reads : Reads depth longest (written row) row
+  -- no other bytes read as the row, whether they are a spelling of it or not
+  pub no_other : (bytes : List ℕ) → Reads depth longest bytes row → bytes ≡ written row
+  -- a spelling of the row that reads, as whatever row, is the written one, and reads as the row
   pub only : (bytes : List ℕ) (other : Row) → Spelled row bytes → Reads depth longest bytes other → (bytes ≡ written row) × (other ≡ row)
+  -- no other well-formed row is written alike
   pub apart : (other : Row) → well_formed depth longest other ≡ true → written other ≡ written row → other ≡ row
 
 abbrev pub WrittenOnceAt : (depth longest : ℕ) → Type 0
 WrittenOnceAt depth longest = (row : Row) → well_formed depth longest row ≡ true → OnlyWriting depth longest row
 
 abbrev pub WrittenOnce : Type 0
-WrittenOnce = (depth longest : ℕ) → longest ≤ greatest_length → WrittenOnceAt depth longest
+WrittenOnce = (depth longest : ℕ) → WrittenOnceAt depth longest
 
 -- bytes that read as a row within some limits read as the same row within wider ones
 abbrev pub Wider : Type 0

@@ -17,7 +17,7 @@ pub fn same_front_stands() -> u8
     0
 }
 
-// Of all spellings of a row, also those with longer lengths than need be, only the written one reads, and as that row.
+// What is written of a row reads as that row, and no other bytes do; of all its spellings, also those with longer lengths than need be, only the written one reads.
 pub fn written_once_stands() -> u8
     ensures { WrittenOnce }
 {

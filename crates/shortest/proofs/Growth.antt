@@ -53,7 +53,7 @@ pub promise : Promise
 promise = record {
   one_reading = one_reading deepest longest;
   same_front = same_element deepest longest;
-  written_once = written_once deepest longest (omega arith);
+  written_once = written_once deepest longest;
   part_of_bytes = part_of_bytes;
   chain_or_none = chain_or_none;
   more_keeps = more_keeps;

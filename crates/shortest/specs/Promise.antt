@@ -10,7 +10,7 @@ pub record Promise : Type 0 where
   pub one_reading : OneReadingAt deepest longest
   -- no element is the front of another
   pub same_front : SameFrontAt deepest longest
-  -- of all spellings of a row only the written one reads, and as that row
+  -- what is written of a row reads as that row, and no other bytes do; of all spellings of a row only the written one reads
   pub written_once : WrittenOnceAt deepest longest
   -- an element by its path is a part of the bytes
   pub part_of_bytes : PartOfBytes
