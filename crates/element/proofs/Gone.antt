@@ -9,7 +9,7 @@ use Rattle.format.proofs.Bytes.{all_bytes_append, all_bytes_one, all_bytes_take,
 use Rattle.format.proofs.Viability.{viable_none}
 use Rattle.element.specs.Limits.{deepest, longest}
 use Rattle.element.specs.Progressed.{Gone, StatusSays, Skipped, left_at, contents_left}
-use Rattle.element.specs.inner.IllPlace.{IllPlace}
+use Rattle.element.specs.IllPlace.{IllPlace}
 use Rattle.element.specs.Machine.{State, start, at_position, unfilled, settled, stepped, run, state, status_at}
 use Rattle.element.specs.declared.progress.position.Position.{Position}
 use Rattle.element.specs.declared.progress.position.Position.TheVariants.{Tag, Length, OneByte, TwoBytes, LowByte, Header, Contents, Nowhere}

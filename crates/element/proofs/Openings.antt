@@ -9,7 +9,7 @@ use Rattle.length.specs.Lengths.{LengthFront, LengthAt, front_length}
 use Rattle.length.proofs.Forms.{reads_length}
 use Rattle.element.specs.declared.judging.Opening.{Opening}
 use Rattle.element.specs.Limits.{longest}
-use Rattle.element.specs.inner.Openings.{Opens}
+use Rattle.element.specs.Openings.{Opens}
 
 -- no element stands at the front of the bytes
 abbrev pub Shut : List ℕ → Type 0

@@ -1,15 +1,18 @@
 -- How a reader goes from element to element: what is behind the first one, or within it, decides.
-use Rattle.std.proofs.Common.{◌≡◌, ℕ, suc, ◌+◌, ◌<◌, ◌≤◌, Bool, true, false, Some, None, List, ◌++◌, length, drop, refl, sym, ap, ◌∙◌, subst, arith, take_at}
+use Rattle.std.proofs.Common.{◌≡◌, ℕ, suc, ◌+◌, ◌<◌, ◌≤◌, Bool, true, false, Some, None, List, [], ◌∷◌, ◌++◌, length, get_or, take, drop, refl, sym, ap, ◌∙◌, subst, arith, length-take-le, take_at}
 use Rattle.std.proofs.lemmas.List.{nil_from_length, drop_at}
 use Rattle.format.specs.Elements.{first_constructed, written_length, all_bytes, Readable}
 use Rattle.format.proofs.Bytes.{all_bytes_take, all_bytes_drop}
+use Rattle.format.proofs.Fronts.{frame}
+use Rattle.format.proofs.Lengths.{starts_short}
 use Rattle.format.proofs.Places.{behind_header}
 use Rattle.format.proofs.Readings.{readable_none, after_primitive, after_constructed, contents_malformed, too_deep, no_front}
 use Rattle.format.proofs.Rows.{framed_size}
 use Rattle.element.specs.declared.judging.Opening.{Opening}
 use Rattle.element.specs.declared.judging.Rest.{Rest}
 use Rattle.element.specs.Limits.{longest}
-use Rattle.element.specs.inner.Openings.{Opens, Decides, Leaves}
+use Rattle.element.specs.Openings.{Opens}
+use Rattle.element.specs.inner.Rests.{Decides, Leaves}
 use Rattle.element.proofs.Openings.{Shut, front_of, shut_few}
 
 -- both parts of bytes are bytes
@@ -20,7 +23,7 @@ all_bytes_both a b h = (
 )
 
 -- no bytes
-readable_end : (d : ℕ) (b : List ℕ) → length b ≡ 0 → Readable d longest b true
+pub readable_end : (d : ℕ) (b : List ℕ) → length b ≡ 0 → Readable d longest b true
 readable_end d b none = subst (λ l. Readable d longest l true) (sym (nil_from_length b none)) (readable_none d longest)
 
 -- bytes with no element at the front
@@ -97,3 +100,11 @@ module _ (d : ℕ) (b : List ℕ) (r : Rest) (h : Decides d b r) where
   -- where nothing is left of a first element
   pub decides_none : Leaves r.depth r.bytes.now None → 0 < length r.bytes.now → Readable d longest b false
   decides_none k some = h.same false (k some)
+
+-- a short primitive element at the front: what is behind it decides
+pub passes_short : (b : List ℕ) → all_bytes b ≡ true → 2 ≤ length b → get_or b 0 0 < first_constructed → get_or b 1 0 < 128 → get_or b 1 0 ≤ length (drop 2 b) → (d : ℕ) (v : Bool) → Readable d longest (drop (get_or b 1 0) (drop 2 b)) v → Readable d longest b v
+passes_short [] bytes two low short fits d v k = absurd (omega arith)
+passes_short (t ∷ x) bytes two low short fits d v k =
+    let n = get_or x 0 0 in
+    let l = length-take-le n (drop 1 x) fits in
+    after_primitive d longest t (take n (drop 1 x)) (drop n (drop 1 x)) (t ∷ x) low (all_bytes_take n (drop 1 x) (all_bytes_drop 2 (t ∷ x) bytes)) (omega (arith, l)) (frame t n (drop 1 x) (t ∷ x) fits (ap (λ y. t ∷ y) (starts_short x (omega arith) short))) v k

@@ -10,8 +10,8 @@ use Rattle.format.proofs.Readings.{same_reading}
 use Rattle.format.proofs.Walks.{Step, step, stop}
 use Rattle.element.specs.Cursors.{ahead, offset, Passes, NextElement, IsNth, CursorGives}
 use Rattle.element.specs.Limits.{deepest, longest}
-use Rattle.element.specs.Located.{Leads, LeadsNowhere, PieceMeans}
-use Rattle.element.specs.inner.Found.{Found}
+use Rattle.element.specs.Found.{Found, bytes_of}
+use Rattle.element.specs.Located.{Leads, LeadsNowhere, IsPart, PieceMeans}
 use Rattle.element.specs.declared.walking.Cursor.{Cursor}
 use Rattle.element.specs.declared.walking.Element.{Element}
 use Rattle.element.proofs.Openings.{front_of}
@@ -205,6 +205,11 @@ piece_means bytes path (Some part) (at, leads) =
       malformed = λ f. absurd (f leads.row leads.reads);
     }
 piece_means bytes path None f = record { is = λ row h. ap written (sym (f row h)); there = λ row h. refl; malformed = λ g. refl }
+
+-- what was found is the part of the bytes that a piece is
+pub found_part : (bytes path : List ℕ) (r : Option Element) → Found bytes path r → IsPart bytes path (bytes_of r)
+found_part bytes path (Some e) h = piece_means bytes path (Some e.whole.now) (e.at, h)
+found_part bytes path None h = piece_means bytes path None h
 
 -- the elements that a cursor gives, one behind the other
 given_joined : (xs : List Element) (s t : Cursor) → Yields NextElement s xs t → ahead s ≡ flat_map (λ e. e.whole.now) xs ++ ahead t

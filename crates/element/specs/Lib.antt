@@ -1,9 +1,12 @@
 pub mod Appended
 pub mod Cursors
-pub mod inner
+pub mod Found
+pub mod IllPlace
 pub mod Indexed
+pub mod inner
 pub mod Judged
 pub mod Limits
 pub mod Located
 pub mod Machine
+pub mod Openings
 pub mod Progressed

@@ -1,4 +1,2 @@
-pub mod Found
-pub mod IllPlace
 pub mod Noted
-pub mod Openings
+pub mod Rests

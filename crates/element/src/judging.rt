@@ -1,9 +1,10 @@
 // Bytes judged: whether they are a row of elements.
-ghost use Rattle.std.specs.Prelude.{◌-◌};
+ghost use Rattle.std.specs.Prelude.{ℕ, ◌≤◌, Bool, length};
 ghost use Rattle.format.specs.Elements.{Readable};
 ghost use Rattle.element.specs.Judged.{Judged};
-ghost use Rattle.element.specs.Limits.{deepest, longest};
-ghost use Rattle.element.specs.inner.Openings.{FrontElement, Leaves};
+ghost use Rattle.element.specs.Limits.{longest};
+ghost use Rattle.element.specs.Openings.{FrontElement};
+ghost use Rattle.element.specs.inner.Rests.{Leaves};
 
 use crate::progress::stepping::ill_place;
 use length::Length;
@@ -19,24 +20,24 @@ pub enum Verdict {
 
 // The first element of some bytes, and the bytes behind it.
 #[derive(Clone, Copy)]
-pub(crate) struct Opening<'a> {
-    pub(crate) tag: u8,
-    pub(crate) contents: &'a [u8],
-    pub(crate) behind: &'a [u8],
+pub struct Opening<'a> {
+    pub tag: u8,
+    pub contents: &'a [u8],
+    pub behind: &'a [u8],
 }
 
 // The bytes of a row that are still to be read, and how many levels of constructed elements may open in it.
 #[derive(Clone, Copy)]
 struct Rest<'a> {
     bytes: &'a [u8],
-    depth: u8,
+    depth: usize,
 }
 
 // Whether the bytes are a row of elements. Malformed ones are read again, byte by byte, for the place.
 pub fn judge(bytes: &[u8]) -> Verdict
     ensures { Judged bytes.now result }
 {
-    if Reader::row(bytes) {
+    if Reader::row(bytes, Reader::MAX_DEPTH) {
         return Verdict::Well;
     }
     // `None` cannot come: both readers accept the same bytes.
@@ -48,7 +49,7 @@ pub struct Reader;
 
 impl Reader {
     // Constructed elements stand within one another at most this deep.
-    pub const MAX_DEPTH: u8 = 8;
+    pub const MAX_DEPTH: usize = 8;
     // Contents have at most this many bytes.
     pub const MAX_LENGTH: usize = 65_535;
     // Tags from this one on are of constructed elements.
@@ -56,8 +57,8 @@ impl Reader {
     // The shortest element is a tag and a length of one byte.
     const SHORTEST: usize = 2;
 
-    // The element at the front of the bytes.
-    pub(crate) fn open<'a>(bytes: &'a [u8]) -> Option<Opening<'a>>
+    // The element at the front of the bytes, or none if no element stands there.
+    pub fn open<'a>(bytes: &'a [u8]) -> Option<Opening<'a>>
         ensures { FrontElement bytes.now result }
     {
         // One test covers the tag and the first byte of the length.
@@ -73,23 +74,9 @@ impl Reader {
         })
     }
 
-    // Whether the bytes are a row.
-    pub(crate) fn row(bytes: &[u8]) -> bool
-        ensures { Readable deepest longest bytes.now result }
-    {
-        Reader::elements(bytes, Reader::MAX_DEPTH)
-    }
-
-    // Whether the bytes are a row that can stand within a constructed element.
-    pub(crate) fn inner_row(bytes: &[u8]) -> bool
-        ensures { Readable (deepest - 1) longest bytes.now result }
-    {
-        Reader::elements(bytes, Reader::MAX_DEPTH - 1)
-    }
-
-    // Whether the bytes are a row in which `depth` levels of constructed elements may open.
-    #[cycle(elements_element)]
-    fn elements(bytes: &[u8], depth: u8) -> bool
+    // Whether the bytes are a row of elements in which at most `depth` levels of constructed elements open. Its calls nest no deeper than that.
+    #[cycle(row_element)]
+    pub fn row(bytes: &[u8], depth: usize) -> bool
         ensures { Readable depth longest bytes.now result }
     {
         let mut rest = Rest { bytes, depth };
@@ -102,9 +89,27 @@ impl Reader {
         rest.bytes.is_empty()
     }
 
+    // What is behind the primitive elements with short lengths at the front, read without a call.
+    fn past_short(bytes: &[u8]) -> &[u8]
+        ensures shorter { length result.now ≤ length bytes.now }
+        ensures decides { (depth : ℕ) (v : Bool) → Readable depth longest result.now v → Readable depth longest bytes.now v }
+    {
+        let mut rest = bytes;
+        while let [tag, size, behind @ ..] = rest {
+            if *tag >= Reader::CONSTRUCTED || *size >= Length::SHORT {
+                return rest;
+            }
+            let Some((_, after)) = behind.split_at_checked(usize::from(*size)) else {
+                return rest;
+            };
+            rest = after;
+        }
+        rest
+    }
+
     // Reads the first element, and answers what is left to read: the bytes behind it or, if it is constructed and the last, its contents, which then need no call.
-    #[cycle(elements_element)]
-    fn element<'a>(bytes: &'a [u8], depth: u8) -> Option<Rest<'a>>
+    #[cycle(row_element)]
+    fn element<'a>(bytes: &'a [u8], depth: usize) -> Option<Rest<'a>>
         ensures { Leaves depth bytes.now result }
     {
         let Opening {
@@ -112,24 +117,29 @@ impl Reader {
             contents,
             behind,
         } = Reader::open(bytes)?;
+        let after = Rest {
+            bytes: behind,
+            depth,
+        };
         if tag < Reader::CONSTRUCTED {
-            return Some(Rest {
-                bytes: behind,
-                depth,
-            });
+            return Some(after);
+        }
+        if depth == 0 {
+            return None;
         }
         if behind.is_empty() {
             return Some(Rest {
                 bytes: contents,
-                depth: depth.checked_sub(1)?,
+                depth: depth - 1,
             });
         }
-        if !Reader::elements(contents, depth.checked_sub(1)?) {
+        let inner = Reader::past_short(contents);
+        if inner.is_empty() {
+            return Some(after);
+        }
+        if !Reader::row(inner, depth - 1) {
             return None;
         }
-        Some(Rest {
-            bytes: behind,
-            depth,
-        })
+        Some(after)
     }
 }

@@ -15,9 +15,9 @@ mod walking;
 mod writing;
 
 pub use index::Index;
-pub use judging::{Reader, Verdict, judge};
-pub use paths::{Span, locate, piece};
-pub use progress::{Progress, Status};
+pub use judging::{Opening, Reader, Verdict, judge};
+pub use paths::{Span, find, locate, piece};
+pub use progress::{Progress, Status, ill_place};
 pub use walking::{Cursor, Element};
 pub use writing::{WriteError, append_constructed, append_primitive};
 

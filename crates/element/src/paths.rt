@@ -1,8 +1,8 @@
 // Elements found by their paths.
 // A path is a row of indices from 0: the first says which element of the row, the next which one within it, and so on.
 ghost use Rattle.std.specs.Prelude.{option_map};
-ghost use Rattle.element.specs.Located.{Located, Piece};
-ghost use Rattle.element.specs.inner.Found.{Found};
+ghost use Rattle.element.specs.Found.{Found, bytes_of};
+ghost use Rattle.element.specs.Located.{IsPart, Located, Piece};
 
 use crate::judging::{Verdict, judge};
 use crate::walking::{Cursor, Element};
@@ -14,9 +14,10 @@ pub struct Span {
     pub len: usize,
 }
 
-// The element that a path leads to, if the bytes are a row of elements and it leads to one.
-fn find<'a>(bytes: &'a [u8], path: &[u64]) -> Option<Element<'a>>
-    ensures { Found bytes.now path.now result }
+// The element that a path leads to. None if the bytes are malformed, or the path leads to no element.
+pub fn find<'a>(bytes: &'a [u8], path: &[u64]) -> Option<Element<'a>>
+    ensures found { Found bytes.now path.now result }
+    ensures part { IsPart bytes.now path.now (bytes_of result) }
 {
     let Verdict::Well = judge(bytes) else {
         return None;

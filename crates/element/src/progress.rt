@@ -5,11 +5,11 @@ ghost use Rattle.element.specs.Limits.{deepest};
 pub(crate) mod position;
 pub(crate) mod stepping;
 
-use crate::judging::Reader;
 use position::Position;
+pub use stepping::ill_place;
 
 // Rows that can be open at once: the outermost, and one for each level.
-pub(crate) const ROWS: usize = Reader::MAX_DEPTH as usize + 1;
+pub(crate) const ROWS: usize = Progress::MAX_DEPTH + 1;
 
 // A reader that takes its bytes one by one and allocates nothing: its position within an element, how many levels of constructed elements may open there, and how many bytes each open row still needs, the row in which n levels may open at index n.
 #[derive(Clone, Copy)]

@@ -48,7 +48,18 @@ impl<'a> Cursor<'a> {
 }
 
 impl<'a> Element<'a> {
-    ghost use Rattle.element.specs.Cursors.{RowOf};
+    ghost use Rattle.element.specs.Cursors.{RowOf, ahead, offset};
+
+    // A cursor before the first byte of the contents, also of a primitive element's, which need not be a row.
+    pub fn inside(&self) -> Cursor<'a>
+        ensures rest { ahead result ≡ self.now.contents.now }
+        ensures place { offset result ≡ self.now.contents_at }
+    {
+        Cursor {
+            rest: self.contents,
+            at: self.contents_at,
+        }
+    }
 
     // A cursor before the first element within, if the element is constructed.
     pub fn row(&self) -> Option<Cursor<'a>>
@@ -57,10 +68,7 @@ impl<'a> Element<'a> {
         if self.tag < Reader::CONSTRUCTED {
             return None;
         }
-        Some(Cursor {
-            rest: self.contents,
-            at: self.contents_at,
-        })
+        Some(self.inside())
     }
 }
 

@@ -73,7 +73,7 @@ pub fn append_constructed(out: &mut Vec<u8>, tag: u8, row: &[u8]) -> Result<(), 
         return Err(WriteError::Tag);
     }
     // Contents that are too long are rejected for that, and not read.
-    if row.len() <= Reader::MAX_LENGTH && !Reader::inner_row(row) {
+    if row.len() <= Reader::MAX_LENGTH && !Reader::row(row, Reader::MAX_DEPTH - 1) {
         return Err(WriteError::Contents);
     }
     append_any(out, tag, row)

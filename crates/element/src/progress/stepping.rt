@@ -3,13 +3,17 @@ ghost use Rattle.std.specs.Prelude.{◌≡◌, ℕ, ◌+◌, ◌≤◌, List, []
 ghost use Rattle.element.specs.Limits.{deepest};
 ghost use Rattle.element.specs.Machine.{state, start, at_position, entered, spent, settled, stepped, full, status_at};
 ghost use Rattle.element.specs.Progressed.{Gone, StatusSays, Skipped};
-ghost use Rattle.element.specs.inner.IllPlace.{IllPlace};
+ghost use Rattle.element.specs.IllPlace.{IllPlace};
 
 use crate::judging::Reader;
 use crate::progress::position::{Position, taken};
 use crate::progress::{Progress, ROWS, Status};
 
 impl Progress {
+    // As many levels of constructed elements may open as in a whole row.
+    pub const MAX_DEPTH: usize = Reader::MAX_DEPTH;
+    // The same as a byte: levels are counted in bytes, which is faster.
+    const LEVELS: u8 = Progress::MAX_DEPTH as u8;
     // The outermost row has no end: it needs more than any element takes.
     const ENDLESS: usize = 2 * (Reader::MAX_LENGTH + 1);
 
@@ -20,7 +24,7 @@ impl Progress {
     {
         Progress {
             position: Position::Tag,
-            levels: Reader::MAX_DEPTH,
+            levels: Progress::LEVELS,
             rooms: [Progress::ENDLESS; ROWS],
         }
     }
@@ -70,7 +74,7 @@ impl Progress {
     fn spend(&mut self, taken: usize)
         ensures { state self.new ≡ spent (state self.old) taken }
     {
-        if self.levels < Reader::MAX_DEPTH {
+        if self.levels < Progress::LEVELS {
             let room = &mut self.rooms[usize::from(self.levels)];
             *room = room.saturating_sub(taken);
         }
@@ -92,7 +96,7 @@ impl Progress {
         ensures is { result ≡ self.now.levels + full (drop self.now.levels self.now.rooms) }
     {
         let mut levels = self.levels;
-        while levels < Reader::MAX_DEPTH && self.rooms[usize::from(levels)] == 0 {
+        while levels < Progress::LEVELS && self.rooms[usize::from(levels)] == 0 {
             levels += 1;
         }
         levels
@@ -105,7 +109,7 @@ impl Progress {
     {
         match self.position {
             Position::Nowhere => Status::Dead,
-            Position::Tag if self.levels == Reader::MAX_DEPTH => Status::Ends,
+            Position::Tag if self.levels == Progress::LEVELS => Status::Ends,
             _ => Status::Within,
         }
     }
@@ -129,7 +133,7 @@ impl Progress {
 }
 
 // Where malformed bytes are malformed, or none if they are a row.
-pub(crate) fn ill_place(bytes: &[u8]) -> Option<usize>
+pub fn ill_place(bytes: &[u8]) -> Option<usize>
     ensures { IllPlace bytes.now result }
 {
     let mut reader = Progress::new();

@@ -1,6 +1,6 @@
 use Rattle.std.proofs.Common.{◌≡◌, ℕ, List, ◌+◌, ◌-◌, refl, length, take, drop, get_or, ap, ◌∙◌, sym, subst, arith, length-drop, drop-drop}
 use Rattle.std.proofs.lemmas.List.{take_rest}
-use Rattle.element.specs.inner.Openings.{FrontElement}
+use Rattle.element.specs.Openings.{FrontElement}
 use Rattle.element.proofs.Openings.{opens_from, shut_few, shut_length, shut_long, length_behind}
 use Rattle.element.proofs.judging.Reader.open.Goals as goal
 

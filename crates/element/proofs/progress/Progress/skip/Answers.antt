@@ -13,4 +13,4 @@ returns-then-over-eq0 c = skipped_none c.args.self.now c.args.limit (omega (arit
 pub returns : goal.returns
 returns c =
     subst (λ k. Skipped c.args.self.now c.args.limit k c.settle.new.self) (sym c.from.ensures)
-    (skipped_some c.args.self.now c.settle.new.self c.args.limit c.in-Contents.left c.min-over.result c.in-Contents.is (omega arith) (omega (arith, clamped _ _ c.try_from.ensures)) c.settle.ensures)
+    (skipped_some c.args.self.now c.settle.new.self c.args.limit c.in-Contents.left _ c.in-Contents.is (omega arith) (omega (arith, clamped _ _ c.try_from.ensures)) c.settle.ensures)

@@ -1,5 +1,5 @@
 -- What looking for the element at the end of a path answers.
-use Rattle.std.specs.Prelude.{ℕ, List, Some, None, Option}
+use Rattle.std.specs.Prelude.{ℕ, List, [], Some, None, Option}
 use Rattle.element.specs.Located.{Leads, LeadsNowhere}
 use Rattle.element.specs.declared.walking.Element.{Element}
 
@@ -7,3 +7,8 @@ use Rattle.element.specs.declared.walking.Element.{Element}
 abbrev pub Found : (bytes path : List ℕ) → Option Element → Type 0
 Found b path (Some e) = Leads b path e.at e.whole.now
 Found b path None = LeadsNowhere b path
+
+-- the bytes of an element that was found, or no bytes
+abbrev pub bytes_of : Option Element → List ℕ
+bytes_of (Some e) = e.whole.now
+bytes_of None = []
