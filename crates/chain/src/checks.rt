@@ -71,7 +71,7 @@ impl PoolInput<'_> {
     }
 
     // The first rejection that applies to the input, if any.
-    pub(crate) fn rejection(&self) -> Option<Rejection>
+    pub fn rejection(&self) -> Option<Rejection>
         ensures { result ≡ pool_rejection (input_of self.now) }
     {
         if !self.certificates_well() {

@@ -5,23 +5,29 @@ ghost use Rattle.chain.specs.Rejections.{rejection_number};
 // The most certificates in a pool.
 pub const MOST: usize = 200;
 
-// How many numbers a certificate has, and the place of each: the order of a permit's fields.
-pub(crate) const NUMBERS: usize = 6;
+// How many numbers a certificate has, in the order of a permit's fields.
+pub const NUMBERS: usize = 6;
 
-pub(crate) const SUBJECT: usize = 0;
+// Place of the subject among a certificate's numbers.
+pub const SUBJECT: usize = 0;
 
-pub(crate) const ISSUER: usize = 1;
+// Place of the issuer.
+pub const ISSUER: usize = 1;
 
-pub(crate) const NOT_BEFORE: usize = 2;
+// Place of the first day on which the certificate holds.
+pub const NOT_BEFORE: usize = 2;
 
-pub(crate) const NOT_AFTER: usize = 3;
+// Place of the last day on which it holds.
+pub const NOT_AFTER: usize = 3;
 
-pub(crate) const MAY_ISSUE: usize = 4;
+// Place of the flag that says whether its subject may issue certificates, 0 or `YES`.
+pub const MAY_ISSUE: usize = 4;
 
-pub(crate) const PATH_LEN: usize = 5;
+// Place of the path length.
+pub const PATH_LEN: usize = 5;
 
 // The mark that says yes, also the largest one; 0 says no.
-pub(crate) const YES: u8 = 1;
+pub const YES: u8 = 1;
 
 // Unchecked input of a pool: the count, six numbers per certificate, n × n signature marks, n anchor marks.
 // C passes the count by itself, so it may not fit the lists.

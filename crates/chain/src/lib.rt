@@ -10,7 +10,10 @@ mod promise;
 mod view;
 
 pub use certificate::CertificateView;
-pub use input::{MOST, PoolInput, Rejection};
+pub use input::{
+    ISSUER, MAY_ISSUE, MOST, NOT_AFTER, NOT_BEFORE, NUMBERS, PATH_LEN, PoolInput, Rejection,
+    SUBJECT, YES,
+};
 pub use judging::{follows, issues, judge_chain};
 pub use promise::pool_rejection_stands;
 pub use view::PoolView;

@@ -23,27 +23,29 @@ impl CertificateView<'_> {
         view.input.certificates[NUMBERS * index + place]
     }
 
-    pub(crate) fn subject(&self) -> u32
+    // The number of the authority or holder that it is for.
+    pub fn subject(&self) -> u32
         ensures { result ≡ (said self.now).subject }
     {
         self.number(SUBJECT)
     }
 
-    pub(crate) fn issuer(&self) -> u32
+    // The number of the authority that issued it.
+    pub fn issuer(&self) -> u32
         ensures { result ≡ (said self.now).issuer }
     {
         self.number(ISSUER)
     }
 
     // Whether its subject may issue certificates.
-    pub(crate) fn may_issue(&self) -> bool
+    pub fn may_issue(&self) -> bool
         ensures { result ≡ (said self.now).may_issue }
     {
         self.number(MAY_ISSUE) == u32::from(YES)
     }
 
     // The most certificates that may stand between it and the first of a chain.
-    pub(crate) fn path_len(&self) -> u32
+    pub fn path_len(&self) -> u32
         ensures { result ≡ (said self.now).path_len }
     {
         self.number(PATH_LEN)
@@ -58,7 +60,7 @@ impl CertificateView<'_> {
     }
 
     // Whether certificate b is there, and the signature of this one under it is valid.
-    pub(crate) fn signs(&self, b: usize) -> bool
+    pub fn signs(&self, b: usize) -> bool
         ensures { result ≡ (certificate_pool self.now).signed self.now.index b }
     {
         let CertificateView { view, index } = *self;
