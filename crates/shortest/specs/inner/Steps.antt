@@ -1,21 +1,17 @@
 -- Steps as the two lists that layers are stated of.
-use Rattle.std.specs.Prelude.{ℕ, ◌+◌, List, map, Option, Some, None}
+use Rattle.std.specs.Prelude.{ℕ, zero, suc, List, Option, Some, None}
 use Rattle.shortest.specs.declared.reached.Step.{Step}
+use Rattle.shortest.specs.declared.reached.Steps.{Steps}
 
--- the layer + 1, or 0 for a certificate not reached
-abbrev pub far_by : Option Step → ℕ
-far_by None = 0
-far_by (Some s) = s.layer + 1
+-- the layer + 1 of each certificate, or 0 for one not reached
+abbrev pub far : Steps → List ℕ
+far s = s.layers
 
--- the certificate below, or 0 for one not reached
-abbrev pub from_by : Option Step → ℕ
-from_by None = 0
-from_by (Some s) = s.below
+-- the certificate below each, or 0 for one not reached
+abbrev pub from : Steps → List ℕ
+from s = s.belows
 
--- of each certificate
-abbrev pub far : List (Option Step) → List ℕ
-far steps = map far_by steps
-
--- of each certificate
-abbrev pub from : List (Option Step) → List ℕ
-from steps = map from_by steps
+-- how a certificate was reached, by its numbers in both lists
+abbrev pub step_of : (far from : ℕ) → Option Step
+step_of zero below = None
+step_of (suc k) below = Some (record { layer = k; below = below })

@@ -6,7 +6,7 @@ ghost use Rattle.shortest.specs.inner.Kept.{Kept, NextTurn, Topped, NoneUp};
 ghost use Rattle.shortest.specs.inner.Steps.{far, from};
 
 use crate::query::Query;
-use crate::reached::{Reached, Step};
+use crate::reached::{Reached, Step, Steps};
 use chain::{MOST, follows};
 
 impl Reached {
@@ -18,12 +18,10 @@ impl Reached {
         ensures size { result.size ≡ 1 }
         ensures over { result.over ≡ 0 }
     {
-        let mut steps = [None; MOST];
-        steps[asked.first] = Some(Step { layer: 0, below: 0 });
         let mut order = [0; MOST];
         order[0] = asked.first as u8;
         Reached {
-            steps,
+            steps: Steps::begin(asked.first),
             order,
             size: 1,
             over: 0,
@@ -35,7 +33,7 @@ impl Reached {
         requires { 0 < slice_index (far self.now.steps) a }
         ensures { slice_index (far self.now.steps) a ≡ result + 1 }
     {
-        usize::from(self.steps[a].unwrap().layer)
+        usize::from(self.steps.get(a).unwrap().layer)
     }
 
     // The certificate from which a was reached, 0 if a was not reached.
@@ -43,7 +41,7 @@ impl Reached {
         requires { a < most }
         ensures { result ≡ slice_index (from self.now.steps) a }
     {
-        self.steps[a].map_or(0, |step| usize::from(step.below))
+        usize::from(self.steps.belows[a])
     }
 
     // Puts y into the queue if it is new and can stand next above x, which is in layer k.
@@ -54,11 +52,12 @@ impl Reached {
         ensures next { NextTurn self.new self.old.over k x }
         ensures kept { Kept asked.now self.new (y + 1) }
     {
-        if self.steps[y].is_none() && follows(&asked.view, asked.day, k, x, y) {
-            self.steps[y] = Some(Step {
+        if self.steps.get(y).is_none() && follows(&asked.view, asked.day, k, x, y) {
+            let step = Step {
                 layer: (k + 1) as u8,
                 below: x as u8,
-            });
+            };
+            self.steps.set(y, step);
             self.order[self.size] = y as u8;
             self.size += 1;
         }
