@@ -7,18 +7,16 @@ use Rattle.chain.specs.declared.input.Rejection.{Rejection}
 use Rattle.shortest.specs.Answers as search
 use Rattle.shortest.specs.Places.{RejectionPlace}
 use Rattle.text.specs.Texts.{chain_text, none_text, rejection_text}
-use Rattle.session.specs.declared.papers.Paper.{Paper}
 use Rattle.session.specs.Books.{Brought}
-use Rattle.session.specs.inner.Held.{paper_bytes}
 use Rattle.session.specs.Answers.{lent, brought_input, ChainAnswer, found, none, rejected}
 
 -- there are as many papers as bytes of papers
-pub papers_count : {Z : Type 0} (papers : Vec Paper Z) → vec_len papers ≡ length (map paper_bytes (vec_items papers))
-papers_count papers = papers.ok.0 ∙ sym (length-map (vec_items papers) paper_bytes)
+pub papers_count : {Y Z : Type 0} (papers : Vec (Vec ℕ Y) Z) → vec_len papers ≡ length (map vec_items (vec_items papers))
+papers_count papers = papers.ok.0 ∙ sym (length-map (vec_items papers) vec_items)
 
 -- a paper that is looked up by its number is a paper in memory
-pub paper_at : {Z : Type 0} (papers : Vec Paper Z) (i : ℕ) (paper : Paper) → i < vec_len papers → paper ≡ slice_index_or (vec_items papers) i paper → paper_bytes paper ≡ slice_index_or (map paper_bytes (vec_items papers)) i []
-paper_at papers i paper less is = ap paper_bytes is ∙ sym (get_or-map paper_bytes (vec_items papers) i paper [] (omega (arith, papers.ok.0)))
+pub paper_at : {Y Z : Type 0} (papers : Vec (Vec ℕ Y) Z) (i : ℕ) (paper : Vec ℕ Y) → i < vec_len papers → paper ≡ slice_index_or (vec_items papers) i paper → vec_items paper ≡ slice_index_or (map vec_items (vec_items papers)) i []
+paper_at papers i paper less is = ap vec_items is ∙ sym (get_or-map vec_items (vec_items papers) i paper [] (omega (arith, papers.ok.0)))
 
 module _ (b : Brought) (numbers : List ℕ) (first day : ℕ) (i : Input) (same : i ≡ brought_input b numbers) (old new : List ℕ) (long : length old ≡ lent b) where
   abbrev Said : Result (Option ℕ) Rejection → Type 0

@@ -1,80 +1,90 @@
--- What is written of a text's answer, when one more question is answered or it fails.
-use Rattle.std.proofs.Common.{◌≡◌, ℕ, ◌+◌, ◌<◌, ◌≤◌, List, [], ◌∷◌, ◌++◌, length, map, drop, get_or, vec_items, Ok, Err, Option, Result, inl, inr, sym, ap, ◌∙◌, subst, append-nil, arith}
-use Rattle.std.proofs.lemmas.List.{drop_more, drop_all}
+-- What is written of a text's answer, when one more line is answered or it fails.
+use Rattle.std.proofs.Common.{◌≡◌, ℕ, suc, List, [], ◌∷◌, ◌++◌, drop, vec_items, Ok, Err, Option, Result, inl, inr, sym, ap, ◌∙◌, subst, append-nil}
 use Rattle.std.specs.Result.{IsErrAnd}
 use Rattle.std.specs.Io.KnownBytes.{Appends}
 use Rattle.std.specs.declared.alloc.AllocError.{AllocError}
+use Rattle.text.specs.Meaning.{meaning}
 use Rattle.text.specs.Tokens.{lines}
 use Rattle.session.specs.declared.Book.{Book}
-use Rattle.session.specs.declared.question.Question.{Question}
 use Rattle.session.specs.declared.error.AnswerError.{AnswerError}
 use Rattle.session.specs.declared.error.AnswerError.TheVariants.{Memory, Write}
+use Rattle.session.specs.declared.passing.Passed.{Passed}
 use Rattle.session.specs.Books.{Brought, brought, Numbers}
+use Rattle.session.specs.Answers.{Answered}
 use Rattle.session.specs.Writing.{WritesAnswer}
-use Rattle.session.specs.inner.Held.{held}
+use Rattle.session.specs.inner.Held.{AllIndexed, SameHeld, held}
+use Rattle.session.specs.inner.Passing.{BookOf, Left}
 use Rattle.session.specs.inner.Puts.{WritesOne}
-use Rattle.session.specs.inner.Questions.{Asked, AnsweredAsked, asked, BookOf, Answerable}
-use Rattle.session.proofs.Known.{appends_nothing, appends_more, keeps_same}
-use Rattle.session.proofs.Telling.{Told, turn, answered, text_answered, front_answered, cut_answered}
+use Rattle.session.proofs.Known.{appends_nothing, appends_more, appends_same, keeps_same}
+use Rattle.session.proofs.Telling.{Told, told_none, told_more, text_answered, front_answered, cut_answered}
 
--- the answers to the first questions are written, and those left are to be answered
-abbrev pub SoFar : (text numbers : List ℕ) (left : List Asked) (old new : Option (List ℕ)) → Type 0
-SoFar text numbers left old new = (written : List ℕ) × Told (brought text) numbers (lines text) written left × Appends old new written
+-- the answers to the first n lines are written, and those left are to be answered
+abbrev pub SoFar : (text numbers : List ℕ) (n : ℕ) (left : List (List ℕ)) (old new : Option (List ℕ)) → Type 0
+SoFar text numbers n left old new = (written : List ℕ) × Told (brought text) numbers (lines text) written n left × Appends old new written
 
-module _ (text numbers : List ℕ) (book : Brought) (same : book ≡ brought text) where
-  answer_of : (q : Asked) (t : List ℕ) → AnsweredAsked book numbers q t → AnsweredAsked (brought text) numbers q t
-  answer_of q t = subst (λ b. AnsweredAsked b numbers q t) same
+module _ (text numbers : List ℕ) (book : Brought) (same : book ≡ brought text) (n : ℕ) (line : List ℕ) (left : List (List ℕ)) where
+  answer_of : (t : List ℕ) → Answered book numbers n (meaning line) t → Answered (brought text) numbers n (meaning line) t
+  answer_of t = subst (λ b. Answered b numbers n (meaning line) t) same
 
-  pub so_far : (q : Asked) (left : List Asked) (a b c : Option (List ℕ)) → SoFar text numbers (q ∷ left) a b → WritesOne (AnsweredAsked book numbers q) (Ok tt) b c → SoFar text numbers left a c
-  so_far q left a b c s w =
-      (s.0 ++ w.0, answered (brought text) numbers (lines text) s.0 w.0 q left (turn (brought text) numbers (lines text) s.0 q left s.1) (answer_of q w.0 w.1), appends_more a b c s.0 w.0 s.2 w.2)
+  so_far : {T : Type 0} (x : T) (a b c : Option (List ℕ)) → SoFar text numbers n (line ∷ left) a b → WritesOne (Answered book numbers n (meaning line)) (Ok x) b c → SoFar text numbers (suc n) left a c
+  so_far x a b c s w = (s.0 ++ w.0, told_more (brought text) numbers (lines text) s.0 w.0 n line left s.1 (answer_of w.0 w.1), appends_more a b c s.0 w.0 s.2 w.2)
 
-  cut_short : (permits : Numbers (brought text).papers numbers) (q : Asked) (left : List Asked) (e : AnswerError) (a b c : Option (List ℕ)) → SoFar text numbers (q ∷ left) a b → WritesOne (AnsweredAsked book numbers q) (Err e) b c → WritesAnswer text a c (Err e)
-  cut_short permits q left (Memory e) a b c s w =
-      inr (s.0, front_answered text numbers permits s.0 (q ∷ left) s.1, subst (Appends a c) (append-nil s.0) (appends_more a b c s.0 [] s.2 (appends_nothing b c w)))
-  cut_short permits q left (Write e) a b c s w =
-      (s.0 ++ w.0, w.1, cut_answered text numbers permits s.0 w.0 w.1 q left (turn (brought text) numbers (lines text) s.0 q left s.1) (answer_of q (w.0 ++ w.1) w.2), appends_more a b c s.0 w.0 s.2 w.3)
+  cut_short : (T : Type 0) (permits : Numbers (brought text).papers numbers) (e : AnswerError) (a b c : Option (List ℕ)) → SoFar text numbers n (line ∷ left) a b → WritesOne {T = T} (Answered book numbers n (meaning line)) (Err e) b c → WritesAnswer text a c (Err e)
+  cut_short T permits (Memory e) a b c s w =
+      inr (s.0, front_answered text numbers permits s.0 n (line ∷ left) s.1, subst (Appends a c) (append-nil s.0) (appends_more a b c s.0 [] s.2 (appends_nothing b c w)))
+  cut_short T permits (Write e) a b c s w =
+      (s.0 ++ w.0, w.1, cut_answered text numbers permits s.0 w.0 w.1 n line left s.1 (answer_of (w.0 ++ w.1) w.2), appends_more a b c s.0 w.0 s.2 w.3)
 
-  pub failed : (permits : Numbers (brought text).papers numbers) (q : Asked) (left : List Asked) (r : Result Unit AnswerError) (e : AnswerError) (a b c : Option (List ℕ)) → IsErrAnd r (λ x. x ≡ e) → SoFar text numbers (q ∷ left) a b → WritesOne (AnsweredAsked book numbers q) (Err e) b c → WritesAnswer text a c r
-  failed permits q left (Ok u) e a b c h s w = absurd h
-  failed permits q left (Err x) e a b c h s w = subst (λ y. WritesAnswer text a c (Err y)) (sym h) (cut_short permits q left e a b c s w)
+  failed : (T : Type 0) (permits : Numbers (brought text).papers numbers) (r : Result Unit AnswerError) (e : AnswerError) (a b c : Option (List ℕ)) → IsErrAnd r (λ x. x ≡ e) → SoFar text numbers n (line ∷ left) a b → WritesOne {T = T} (Answered book numbers n (meaning line)) (Err e) b c → WritesAnswer text a c r
+  failed T permits (Ok u) e a b c h s w = absurd h
+  failed T permits (Err x) e a b c h s w = subst (λ y. WritesAnswer text a c (Err y)) (sym h) (cut_short T permits e a b c s w)
 
-pub all_told : (text numbers : List ℕ) → Numbers (brought text).papers numbers → (left : List Asked) (a b : Option (List ℕ)) → left ≡ [] → SoFar text numbers left a b → WritesAnswer text a b (Ok tt)
-all_told text numbers permits left a b none s = (s.0, text_answered text numbers permits s.0 (subst (Told (brought text) numbers (lines text) s.0) none s.1), s.2)
+-- a book of the text, what is left of it, and what has been written
+pub record Turn (text : List ℕ) (book : Book) (passed : Passed) (n : ℕ) (rest : List (List ℕ)) (old now : Option (List ℕ)) : Type 0 where
+  pub whole : held book ≡ brought text
+  pub numbers : Numbers (held book).papers (vec_items book.numbers)
+  pub indexed : AllIndexed (held book).papers (vec_items book.indexes)
+  pub left : Left (held book).papers (vec_items book.unreadable) passed n rest
+  pub said : SoFar text (vec_items book.numbers) n rest old now
 
--- the question whose turn it is, and those behind it
-pub next_one : (items shown : List Question) (i : ℕ) (x : Question) → shown ≡ items → i < length shown → x ≡ get_or shown i x → map asked (drop i items) ≡ asked x ∷ map asked (drop (i + 1) items)
-next_one items shown i x e less is =
-    let h : i < length items = omega (arith, ap length e) in
-    let here : x ≡ get_or items i x = is ∙ ap (λ l. get_or l i x) e in
-    ap (map asked) (drop_more items i x h ∙ ap (λ y. y ∷ drop (i + 1) items) (sym here))
+pub first_turn : (text : List ℕ) (book : Book) (passed : Passed) (n : ℕ) (rest : List (List ℕ)) (old : Option (List ℕ)) → BookOf text book → passed.papers ≡ 0 → passed.unreadable ≡ 0 → n ≡ 0 → rest ≡ lines text → Turn text book passed n rest old old
+first_turn text book passed n rest old b p u z e =
+    subst (λ k. Turn text book passed k rest old old) (sym z)
+    (subst (λ l. Turn text book passed 0 l old old) (sym e) (record {
+      whole = b.whole;
+      numbers = b.numbers;
+      indexed = b.indexed;
+      left = record { before = []; count = p; papers_left = ap (λ h. h.papers) b.whole; unread_left = ap (λ k. drop k (vec_items book.unreadable)) u ∙ b.unreadable };
+      said = ([], told_none text (vec_items book.numbers), appends_same old);
+    }))
 
-pub none_left : (items shown : List Question) (i : ℕ) → shown ≡ items → length shown ≤ i → map asked (drop i items) ≡ []
-none_left items shown i e h = ap (map asked) (drop_all i items (omega (arith, ap length e)))
+module _ (text : List ℕ) (was : Book) (passed : Passed) (n : ℕ) (rest : List (List ℕ)) (old now : Option (List ℕ)) (t : Turn text was passed n rest old now) (line : List ℕ) (left : List (List ℕ)) (e : rest ≡ line ∷ left) where
+  pub here : Left (held was).papers (vec_items was.unreadable) passed n (line ∷ left)
+  here = subst (Left (held was).papers (vec_items was.unreadable) passed n) e t.left
 
-module _ (book : Book) (text : List ℕ) (b : BookOf text book) (items : List Question) (shown : items ≡ vec_items book.questions) (i : ℕ) (x : Question) (less : i < length items) (is : x ≡ get_or items i x) (old now : Option (List ℕ)) (s : SoFar text (vec_items book.numbers) (map asked (drop i (vec_items book.questions))) old now) where
-  -- the first of the questions left is the one whose turn it is
-  at_turn : SoFar text (vec_items book.numbers) (asked x ∷ map asked (drop (i + 1) (vec_items book.questions))) old now
-  at_turn = subst (λ l. SoFar text (vec_items book.numbers) l old now) (next_one (vec_items book.questions) items i x shown less is) s
+  said_here : SoFar text (vec_items was.numbers) n (line ∷ left) old now
+  said_here = subst (λ l. SoFar text (vec_items was.numbers) n l old now) e t.said
 
-  permits_of : Numbers (brought text).papers (vec_items book.numbers)
-  permits_of = subst (λ t. Numbers t.papers (vec_items book.numbers)) b.whole b.numbers
+  pub next_turn : {T : Type 0} (x : T) (is : Book) (next : Passed) (m : ℕ) (new : Option (List ℕ)) → m ≡ suc n → SameHeld was is → WritesOne (Answered (held was) (vec_items was.numbers) n (meaning line)) (Ok x) now new → ((l : List (List ℕ)) → Left (held was).papers (vec_items was.unreadable) passed n (line ∷ l) → Left (held was).papers (vec_items was.unreadable) next (suc n) l) → Turn text is next m left old new
+  next_turn x is next m new step same w goes =
+      subst (λ k. Turn text is next k left old new) (sym step) (record {
+        whole = same.held ∙ t.whole;
+        numbers = subst (λ b. Numbers b.papers (vec_items is.numbers)) (sym same.held) (subst (Numbers (held was).papers) (sym same.numbers) t.numbers);
+        indexed = same.indexed;
+        left = subst (λ b. Left b.papers (vec_items is.unreadable) next (suc n) left) (sym same.held) (subst (λ u. Left (held was).papers u next (suc n) left) (sym same.unreadable) (goes left here));
+        said = subst (λ ns. SoFar text ns (suc n) left old new) (sym same.numbers) (so_far text (vec_items was.numbers) (held was) t.whole n line left x old now new said_here w);
+      })
 
-  pub answerable : Answerable book x
-  answerable = record {
-    indexed = b.indexed;
-    there = λ n e.
-        let t = turn (brought text) (vec_items book.numbers) (lines text) at_turn.0 (asked x) (map asked (drop (i + 1) (vec_items book.questions))) at_turn.1 in
-        omega (arith, t.there n e, ap (λ h. length h.papers) b.whole);
-  }
+  pub turn_failed : (T : Type 0) (new : Option (List ℕ)) (r : Result Unit AnswerError) (x : AnswerError) → IsErrAnd r (λ y. y ≡ x) → WritesOne {T = T} (Answered (held was) (vec_items was.numbers) n (meaning line)) (Err x) now new → WritesAnswer text old new r
+  turn_failed T new r x h w =
+      failed text (vec_items was.numbers) (held was) t.whole n line left T (subst (λ b. Numbers b.papers (vec_items was.numbers)) t.whole t.numbers) r x old now new h said_here w
 
-  pub turn_over : (next : Option (List ℕ)) → WritesOne (AnsweredAsked (held book) (vec_items book.numbers) (asked x)) (Ok tt) now next → SoFar text (vec_items book.numbers) (map asked (drop (i + 1) (vec_items book.questions))) old next
-  turn_over next w = so_far text (vec_items book.numbers) (held book) b.whole (asked x) (map asked (drop (i + 1) (vec_items book.questions))) old now next at_turn w
-
-  pub turn_failed : (next : Option (List ℕ)) (r : Result Unit AnswerError) (e : AnswerError) → IsErrAnd r (λ y. y ≡ e) → WritesOne (AnsweredAsked (held book) (vec_items book.numbers) (asked x)) (Err e) now next → WritesAnswer text old next r
-  turn_failed next r e h w = failed text (vec_items book.numbers) (held book) b.whole permits_of (asked x) (map asked (drop (i + 1) (vec_items book.questions))) r e old now next h at_turn w
+pub all_told : (text : List ℕ) (book : Book) (passed : Passed) (n : ℕ) (rest : List (List ℕ)) (old now : Option (List ℕ)) → Turn text book passed n rest old now → rest ≡ [] → WritesAnswer text old now (Ok tt)
+all_told text book passed n rest old now t none =
+    let s = subst (λ l. SoFar text (vec_items book.numbers) n l old now) none t.said in
+    (s.0, text_answered text (vec_items book.numbers) (subst (λ b. Numbers b.papers (vec_items book.numbers)) t.whole t.numbers) s.0 n s.1, s.2)
 
 -- a text that could not be read because memory failed
-pub unread : (text : List ℕ) (r : Result Unit AnswerError) (e : AllocError) (a : Option (List ℕ)) → IsErrAnd r (λ x. x ≡ Memory e) → WritesAnswer text a a r
-unread text (Ok u) e a h = absurd h
-unread text (Err x) e a h = subst (λ y. WritesAnswer text a a (Err y)) (sym h) (inl (keeps_same a))
+pub unread_text : (text : List ℕ) (r : Result Unit AnswerError) (e : AllocError) (a : Option (List ℕ)) → IsErrAnd r (λ x. x ≡ Memory e) → WritesAnswer text a a r
+unread_text text (Ok u) e a h = absurd h
+unread_text text (Err x) e a h = subst (λ y. WritesAnswer text a a (Err y)) (sym h) (inl (keeps_same a))

@@ -32,3 +32,9 @@ begun_same bytes rest left a b c i e k =
 pub keeps_same : (a : Option (List ℕ)) → Keeps a a
 keeps_same None = tt
 keeps_same (Some x) = refl
+
+pub keeps_more : (a b c : Option (List ℕ)) → Keeps a b → Keeps b c → Keeps a c
+keeps_more None b c h k = tt
+keeps_more (Some x) None c h k = absurd h
+keeps_more (Some x) (Some y) None h k = absurd k
+keeps_more (Some x) (Some y) (Some z) h k = k ∙ h

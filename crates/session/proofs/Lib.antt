@@ -5,6 +5,7 @@ pub mod Known
 pub mod Lines
 pub mod NoPermits
 pub mod Parts
+pub mod Passes
 pub mod Putting
 pub mod Quiet
 pub mod Showing

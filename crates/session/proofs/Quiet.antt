@@ -1,5 +1,5 @@
 -- Texts whose lines bring and ask nothing.
-use Rattle.std.proofs.Common.{◌≡◌, ℕ, zero, suc, ◌+◌, List, [], ◌∷◌, ◌++◌, length, map, Some, None, Option, refl, ap, ◌∙◌, subst, arith}
+use Rattle.std.proofs.Common.{◌≡◌, ℕ, zero, suc, List, [], ◌∷◌, ◌++◌, Some, None, Option, refl, ap, ◌∙◌, subst, arith}
 use Rattle.std.specs.Option.{option_map}
 use Rattle.std.specs.List.{All}
 use Rattle.format.specs.Elements.{written, framed}
@@ -9,10 +9,10 @@ use Rattle.text.specs.Reading.{StoresWords, stores_paper, stores_seals, stores_t
 use Rattle.text.specs.Tokens.{words}
 use Rattle.text.specs.inner.Figures.{both, numbers, all_of}
 use Rattle.text.specs.inner.Saying.{words_say}
-use Rattle.session.specs.Books.{brought_by, brings, paper_at}
+use Rattle.session.specs.Answers.{Answered}
+use Rattle.session.specs.Books.{Brought, brought_by, brings, paper_at}
 use Rattle.session.specs.Writing.{StoresNothing, says_nothing, no_seals, no_trusted}
 use Rattle.session.specs.inner.Held.{NoFirstPermit}
-use Rattle.session.specs.inner.Questions.{asks, all_asked}
 
 abbrev pub Quiet : List (List ℕ) → Type 0
 Quiet ls = All (λ line. StoresNothing (meaning line)) ls
@@ -77,15 +77,29 @@ pub unread_quiet : (line : List ℕ) → meaning line ≡ None → StoresNothing
 unfolding StoredAs
 unread_quiet line e k = stored_as None (subst StoresNothing e k)
 
+-- so does a line that says a paper or asks
+pub paper_quiet : (o : Option Meaning) (bytes : List ℕ) → o ≡ Some (paper bytes) → StoresNothing o → ⊥
+unfolding StoredAs
+paper_quiet o bytes e k = stored_as (Some (paper bytes)) (subst StoresNothing e k)
+
+pub piece_quiet : (o : Option Meaning) (p : ℕ) (path : List ℕ) → o ≡ Some (piece p path) → StoresNothing o → ⊥
+unfolding StoredAs
+piece_quiet o p path e k = stored_as (Some (piece p path)) (subst StoresNothing e k)
+
+pub chain_quiet : (o : Option Meaning) (first day : ℕ) → o ≡ Some (chain first day) → StoresNothing o → ⊥
+unfolding StoredAs
+chain_quiet o first day e k = stored_as (Some (chain first day)) (subst StoresNothing e k)
+
+-- its answer is empty
+pub quiet_answer : (b : Brought) (numbers : List ℕ) (n : ℕ) (o : Option Meaning) (text : List ℕ) → StoresNothing o → Answered b numbers n o text → text ≡ []
+quiet_answer b numbers n _ text says_nothing a = a
+quiet_answer b numbers n _ text no_seals a = a
+quiet_answer b numbers n _ text no_trusted a = a
+
 no_papers : (o : Option Meaning) → StoresNothing o → (brings o).papers ≡ []
 no_papers _ says_nothing = refl
 no_papers _ no_seals = refl
 no_papers _ no_trusted = refl
-
-none_asked : (k n : ℕ) (o : Option Meaning) → StoresNothing o → asks k n o ≡ []
-none_asked k n _ says_nothing = refl
-none_asked k n _ no_seals = refl
-none_asked k n _ no_trusted = refl
 
 pub quiet_papers : (ls : List (List ℕ)) → Quiet ls → (brought_by ls).papers ≡ []
 quiet_papers [] q = refl
@@ -94,13 +108,3 @@ quiet_papers (l ∷ ls) q = ap (λ ps. ps ++ (brought_by ls).papers) (no_papers 
 pub no_first_permit : (papers : List (List ℕ)) → papers ≡ [] → NoFirstPermit papers
 unfolding permit_row written framed
 no_first_permit papers e c p = some_bytes _ _ (p.is ∙ ap (λ l. paper_at l 0) e)
-
-pub quiet_asked : (ls : List (List ℕ)) (k n : ℕ) → Quiet ls → all_asked k n ls ≡ []
-unfolding all_asked
-quiet_asked [] k n q = refl
-quiet_asked (l ∷ ls) k n q =
-    ap (λ qs. qs ++ all_asked (k + length (brings (meaning l)).papers) (suc n) ls) (none_asked k n (meaning l) (first_quiet (l ∷ ls) ls l refl q)) ∙ quiet_asked ls (k + length (brings (meaning l)).papers) (suc n) (rest_quiet (l ∷ ls) ls l refl q)
-
-pub none_mapped : {X Y : Type 0} (f : X → Y) (xs : List X) → map f xs ≡ [] → xs ≡ []
-none_mapped f [] e = refl
-none_mapped f (x ∷ xs) e = cc

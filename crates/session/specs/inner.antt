@@ -1,3 +1,3 @@
 pub mod Held
+pub mod Passing
 pub mod Puts
-pub mod Questions

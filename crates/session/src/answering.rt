@@ -1,31 +1,31 @@
-// The answers to questions.
-ghost use Rattle.std.specs.Prelude.{◌≡◌, length};
+// The answers to lines.
+ghost use Rattle.std.specs.Prelude.{◌≡◌, ◌<◌, ℕ, length, IsOk, Some};
 ghost use Rattle.chain.specs.Inputs.{input_of};
 ghost use Rattle.chain.specs.Rejections.{rejection_number};
 ghost use Rattle.text.specs.Texts.{AppendsText, rejection_text};
-ghost use Rattle.session.specs.Answers.{lent, brought_input, PaperAnswer, PieceAnswer, ChainAnswer};
-ghost use Rattle.session.specs.Books.{Brought, paper_at};
-ghost use Rattle.session.specs.inner.Held.{AllIndexed, Indexed, held, paper_bytes};
-ghost use Rattle.session.specs.inner.Puts.{Puts};
-ghost use Rattle.session.specs.inner.Questions.{Answerable, AnsweredAsked, asked};
+ghost use Rattle.text.specs.Meaning.{meaning, says};
+ghost use Rattle.session.specs.Answers.{lent, brought_input, PaperAnswer, PieceAnswer, ChainAnswer, Answered};
+ghost use Rattle.session.specs.Writing.{StoresNothing};
+ghost use Rattle.session.specs.inner.Held.{AllIndexed, SameHeld, held};
+ghost use Rattle.session.specs.inner.Puts.{Puts, PutsIfOk};
 
+use crate::Book;
 use crate::rows::append_row;
-use crate::{Book, Paper, Question};
 use chain::{MOST, PoolInput, Rejection};
-use element::{Cursor, Verdict};
+use element::{Cursor, Verdict, judge};
 use shortest::{find_chain, rejection_place};
-use std::alloc::AllocError;
+use std::alloc::{AllocError, Global};
 use text::{
-    append_bytes, append_chain, append_ill, append_none, append_rejection, append_unreadable,
+    Command, LineError, append_bytes, append_chain, append_ill, append_none, append_rejection,
+    append_unreadable, read_line,
 };
 
 // The elements of a paper, or the place at which its bytes are malformed.
-fn answer_paper(paper: &Paper, out: &mut Vec<u8>) -> Result<(), AllocError>
-    requires { Indexed paper.now }
-    ensures { Puts (PaperAnswer (paper_bytes paper.now)) result out.old.items out.new.items }
+pub(crate) fn answer_paper(bytes: &[u8], out: &mut Vec<u8>) -> Result<(), AllocError>
+    ensures { Puts (PaperAnswer bytes.now) result out.old.items out.new.items }
 {
-    match paper.verdict() {
-        Verdict::Well => append_row(out, 0, Cursor::new(paper.bytes())),
+    match judge(bytes) {
+        Verdict::Well => append_row(out, 0, Cursor::new(bytes)),
         Verdict::Ill { at } => append_ill(out, at as u64),
     }
 }
@@ -39,14 +39,23 @@ fn reject(out: &mut Vec<u8>, why: Rejection, place: u64) -> Result<(), AllocErro
 
 impl Book {
     // The element of a paper by a path, `none`, or the rejection if there is no such paper.
-    fn answer_piece(&self, paper: u64, path: &[u64], out: &mut Vec<u8>) -> Result<(), AllocError>
-        requires { AllIndexed self.now }
-        ensures { Puts (PieceAnswer (held self.now).papers paper path.now) result out.old.items out.new.items }
+    fn answer_piece(
+        &mut self,
+        heap: Global,
+        paper: u64,
+        path: &[u64],
+        out: &mut Vec<u8>,
+    ) -> Result<(), AllocError>
+        requires { AllIndexed (held self.old).papers self.old.indexes.items }
+        ensures same { SameHeld self.old self.new }
+        ensures answer { Puts (PieceAnswer (held self.old).papers paper path.now) result out.old.items out.new.items }
     {
-        let Some(known) = self.papers.get(paper as usize) else {
+        let place = paper as usize;
+        if place >= self.papers.len() {
             return reject(out, Rejection::Unknown, paper);
-        };
-        match known.piece(path) {
+        }
+        self.prepare(heap, place);
+        match self.piece(place, path) {
             Some(part) => append_bytes(out, part),
             None => append_none(out),
         }
@@ -95,16 +104,43 @@ impl Book {
         self.write_chain(first, day, &mut buffer[..size], out)
     }
 
-    // The answer to a question, put behind the bytes.
-    pub(crate) fn answer(&self, question: &Question, out: &mut Vec<u8>) -> Result<(), AllocError>
-        requires { Answerable self.now question.now }
-        ensures { Puts (AnsweredAsked (held self.now) self.now.numbers.items (asked question.now)) result out.old.items out.new.items }
+    // The answer to a line that says a command, put behind the bytes.
+    fn answer_command(
+        &mut self,
+        heap: Global,
+        command: Command,
+        out: &mut Vec<u8>,
+    ) -> Result<(), AllocError>
+        requires { AllIndexed (held self.old).papers self.old.indexes.items }
+        ensures quiet { StoresNothing (Some (says command)) → IsOk result }
+        ensures same { SameHeld self.old self.new }
+        ensures answer { (n : ℕ) → Puts (Answered (held self.old) self.old.numbers.items n (Some (says command))) result out.old.items out.new.items }
     {
-        match question {
-            Question::Paper(number) => answer_paper(&self.papers[*number], out),
-            Question::Piece { paper, path } => self.answer_piece(*paper, path, out),
-            Question::Chain { first, day } => self.answer_chain(*first, *day, out),
-            Question::Unreadable(line) => append_unreadable(out, *line),
+        match command {
+            Command::Nothing | Command::Seals(_) | Command::Trusted(_) => Ok(()),
+            Command::Paper(bytes) => answer_paper(&bytes, out),
+            Command::Piece { paper, path } => self.answer_piece(heap, paper, &path, out),
+            Command::Chain { first, day } => self.answer_chain(first, day, out),
+        }
+    }
+
+    // The answer to a line by its number, put behind the bytes.
+    pub(crate) fn answer(
+        &mut self,
+        heap: Global,
+        number: u64,
+        line: &[u8],
+        out: &mut Vec<u8>,
+    ) -> Result<(), AllocError>
+        requires { AllIndexed (held self.old).papers self.old.indexes.items }
+        ensures quiet { StoresNothing (meaning line.now) → IsOk result }
+        ensures same { SameHeld self.old self.new }
+        ensures answer { PutsIfOk (Answered (held self.old) self.old.numbers.items number (meaning line.now)) result out.old.items out.new.items }
+    {
+        match read_line(heap, line) {
+            Ok(command) => self.answer_command(heap, command, out),
+            Err(LineError::Unreadable) => append_unreadable(out, number),
+            Err(LineError::Memory(error)) => Err(error),
         }
     }
 }

@@ -6,10 +6,10 @@ use std::alloc::AllocError;
 use std::io;
 use thiserror::Error;
 
-// Out of memory, or the error of the writer.
+// Out of memory, or the error of the writer; each is printed as it is.
 #[derive(Debug, Drop, Error)]
 pub enum AnswerError {
-    #[error("out of memory")]
+    #[error("{0}")]
     Memory(AllocError),
     #[error("{0}")]
     Write(io::Error),

@@ -3,30 +3,33 @@
 
 mod answering;
 mod error;
+mod indexing;
 mod numbering;
-mod papers;
+mod passing;
 mod promise;
-mod question;
 mod reading;
 mod rows;
 mod writing;
 
+use element::Index;
 pub use error::AnswerError;
-use papers::Paper;
 pub use promise::{
     each_line_stands, more_brought_stands, more_text_stands, no_permit_stands,
     other_numbers_stands, pool_of_papers_stands, row_text_stands,
 };
-use question::Question;
 pub use writing::answer_text;
 
-// All that a text brings and asks: papers, signature marks, anchor marks, and the questions in the order of their lines.
+// All that a text brings: papers, signature marks, anchor marks; and the numbers of the lines that begin as ones that bring something and can't be read.
 // `numbers` has six numbers for each of the leading papers that are permits, as the input of a pool has them.
+// `indexes` has the index of a paper at its place once the elements are noted; behind its end stands none.
+// `walks` is how many bytes of papers may still be walked through in search of elements before a paper's elements are noted. At first it is a multiple of the size of the text.
 #[derive(Drop)]
 struct Book {
-    papers: Vec<Paper>,
+    papers: Vec<Vec<u8>>,
     seals: Vec<u8>,
     trusted: Vec<u8>,
     numbers: Vec<u32>,
-    questions: Vec<Question>,
+    unreadable: Vec<u64>,
+    indexes: Vec<Option<Box<Index>>>,
+    walks: usize,
 }

@@ -1,10 +1,9 @@
 // The numbers of the papers that are permits.
-ghost use Rattle.std.specs.Prelude.{◌≡◌, ℕ, List, ◌++◌, map, IfOk, IsOk, OnOk};
+ghost use Rattle.std.specs.Prelude.{◌≡◌, ℕ, List, ◌++◌, map, vec_items, IfOk, IsOk, OnOk};
 ghost use Rattle.certificate.specs.Permits.{certificate_of};
 ghost use Rattle.session.specs.Books.{Numbers};
-ghost use Rattle.session.specs.inner.Held.{NoFirstPermit, SixNumbers, paper_bytes};
+ghost use Rattle.session.specs.inner.Held.{NoFirstPermit, SixNumbers};
 
-use crate::Paper;
 use certificate::{Certificate, decode};
 use std::alloc::{AllocError, Global};
 
@@ -24,13 +23,13 @@ fn push_six(numbers: &mut Vec<u32>, c: Certificate) -> Result<(), AllocError>
 }
 
 // The numbers of papers: six for each permit, up to the first paper that is no permit. Out of memory only if the first is a permit.
-pub(crate) fn numbers_of(heap: Global, papers: &[Paper]) -> Result<Vec<u32>, AllocError>
-    ensures quiet { NoFirstPermit (map paper_bytes papers.now) → IsOk result }
-    ensures numbers { IfOk result (λ v. Numbers (map paper_bytes papers.now) v.items) }
+pub(crate) fn numbers_of(heap: Global, papers: &[Vec<u8>]) -> Result<Vec<u32>, AllocError>
+    ensures quiet { NoFirstPermit (map vec_items papers.now) → IsOk result }
+    ensures numbers { IfOk result (λ v. Numbers (map vec_items papers.now) v.items) }
 {
     let mut numbers = Vec::new(heap);
     for paper in papers {
-        let Some(certificate) = decode(paper.bytes()) else {
+        let Some(certificate) = decode(paper) else {
             return Ok(numbers);
         };
         push_six(&mut numbers, certificate)?;

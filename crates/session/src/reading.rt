@@ -1,77 +1,75 @@
 // A book made of a text.
-ghost use Rattle.std.specs.Prelude.{◌≡◌, [], ◌++◌, length, IfOk, IsOk, OnOk, Some};
-ghost use Rattle.text.specs.Meaning.{says, paper};
+ghost use Rattle.std.specs.Prelude.{◌≡◌, [], ◌++◌, IfOk, IsOk, OnOk, Some};
+ghost use Rattle.text.specs.Meaning.{meaning, says};
 ghost use Rattle.session.specs.Books.{nothing_brought, brings};
 ghost use Rattle.session.specs.Writing.{StoresNothing, NothingStored};
-ghost use Rattle.session.specs.inner.Held.{AllIndexed, added, held};
-ghost use Rattle.session.specs.inner.Questions.{asks, kept, BookOf};
+ghost use Rattle.session.specs.inner.Held.{added, held};
+ghost use Rattle.session.specs.inner.Passing.{BookOf, unread_line};
 
+use crate::Book;
 use crate::numbering::numbers_of;
-use crate::{Book, Paper, Question};
 use std::alloc::{AllocError, Global};
-use text::{Command, LineError, Lines, read_line};
+use text::{Command, Head, LineError, Lines, read_head, read_line};
+
+// How many bytes of papers may be walked through for each byte of a text before elements are noted.
+const WALKS: usize = 16;
 
 impl Book {
-    // A book of nothing.
-    fn new(heap: Global) -> Book
-        ensures indexed { AllIndexed result }
+    // A book of nothing, for a text of some bytes.
+    fn new(heap: Global, size: usize) -> Book
+        ensures no_index { result.indexes.items ≡ [] }
         ensures held { held result ≡ nothing_brought }
-        ensures kept { kept result ≡ [] }
+        ensures unreadable { result.unreadable.items ≡ [] }
     {
         Book {
             papers: Vec::new(heap),
             seals: Vec::new(heap),
             trusted: Vec::new(heap),
             numbers: Vec::new(heap),
-            questions: Vec::new(heap),
+            unreadable: Vec::new(heap),
+            indexes: Vec::new(heap),
+            walks: size.saturating_mul(WALKS),
         }
     }
 
-    // Takes in a paper and the question to print it.
-    fn note_paper(&mut self, heap: Global, bytes: Vec<u8>) -> Result<(), AllocError>
-        ensures indexed { OnOk result (AllIndexed self.old → AllIndexed self.new) }
-        ensures held { OnOk result (held self.new ≡ added (held self.old) (brings (Some (paper bytes.items)))) }
-        ensures kept { OnOk result (kept self.new ≡ kept self.old ++ asks (length (held self.old).papers) 0 (Some (paper bytes.items))) }
-    {
-        let number = self.papers.len();
-        self.papers.push(Paper::new(heap, bytes)?)?;
-        Ok(self.questions.push(Question::Paper(number))?)
-    }
-
-    // Takes in what a command brings and asks.
-    fn note(&mut self, heap: Global, command: Command) -> Result<(), AllocError>
+    // Takes in what a command brings.
+    fn note(&mut self, command: Command) -> Result<(), AllocError>
         ensures quiet { StoresNothing (Some (says command)) → IsOk result }
-        ensures indexed { OnOk result (AllIndexed self.old → AllIndexed self.new) }
+        ensures no_index { self.new.indexes.items ≡ self.old.indexes.items }
         ensures held { OnOk result (held self.new ≡ added (held self.old) (brings (Some (says command)))) }
-        ensures kept { OnOk result (kept self.new ≡ kept self.old ++ asks (length (held self.old).papers) 0 (Some (says command))) }
+        ensures unreadable { self.new.unreadable.items ≡ self.old.unreadable.items }
     {
         match command {
-            Command::Nothing => Ok(()),
-            Command::Paper(bytes) => self.note_paper(heap, bytes),
+            Command::Paper(bytes) => Ok(self.papers.push(bytes)?),
             Command::Seals(marks) => self.seals.extend_from_slice(&marks),
             Command::Trusted(marks) => self.trusted.extend_from_slice(&marks),
-            Command::Piece { paper, path } => Ok(
-                self.questions.push(Question::Piece { paper, path })?,
-            ),
-            Command::Chain { first, day } => Ok(
-                self.questions.push(Question::Chain { first, day })?,
-            ),
+            Command::Nothing | Command::Piece { .. } | Command::Chain { .. } => Ok(()),
         }
     }
 
-    // The book of all that a text brings and asks.
+    // Takes in what a line brings, or its number if it can't be read.
+    fn note_line(&mut self, heap: Global, number: u64, line: &[u8]) -> Result<(), AllocError>
+        ensures quiet { StoresNothing (meaning line.now) → IsOk result }
+        ensures no_index { self.new.indexes.items ≡ self.old.indexes.items }
+        ensures held { OnOk result (held self.new ≡ added (held self.old) (brings (meaning line.now))) }
+        ensures unreadable { OnOk result (self.new.unreadable.items ≡ self.old.unreadable.items ++ unread_line number (meaning line.now)) }
+    {
+        match read_line(heap, line) {
+            Ok(command) => self.note(command),
+            Err(LineError::Unreadable) => Ok(self.unreadable.push(number)?),
+            Err(LineError::Memory(error)) => Err(error),
+        }
+    }
+
+    // The book of all that a text brings. Lines that begin as ones that bring nothing aren't read.
     pub(crate) fn read(heap: Global, text: &[u8]) -> Result<Book, AllocError>
         ensures read { IfOk result (λ b. BookOf text.now b) }
         ensures quiet { NothingStored text.now → IsOk result }
     {
-        let mut book = Book::new(heap);
+        let mut book = Book::new(heap, text.len());
         for (number, line) in Lines::new(text).enumerate() {
-            match read_line(heap, line) {
-                Ok(command) => book.note(heap, command)?,
-                Err(LineError::Unreadable) => book
-                    .questions
-                    .push(Question::Unreadable(number as u64))?,
-                Err(LineError::Memory(error)) => return Err(error),
+            if read_head(line) != Head::Other {
+                book.note_line(heap, number as u64, line)?;
             }
         }
         book.numbers = numbers_of(heap, &book.papers)?;

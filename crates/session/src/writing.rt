@@ -1,14 +1,18 @@
 // The answer of a text, written.
-ghost use Rattle.std.specs.Prelude.{ℕ, ◌≡◌, [], List, IsOk};
+ghost use Rattle.std.specs.Prelude.{ℕ, suc, ◌∷◌, List, IfOk, IsOk};
 ghost use Rattle.std.specs.Io.KnownBytes.{Keeps};
-ghost use Rattle.session.specs.Writing.{NothingStored, WritesAnswer};
-ghost use Rattle.session.specs.inner.Held.{held};
+ghost use Rattle.text.specs.Meaning.{meaning};
+ghost use Rattle.session.specs.Answers.{Answered};
+ghost use Rattle.session.specs.Writing.{NothingStored, StoresNothing, WritesAnswer};
+ghost use Rattle.session.specs.inner.Held.{AllIndexed, SameHeld, held};
+ghost use Rattle.session.specs.inner.Passing.{BookOf, Left};
 ghost use Rattle.session.specs.inner.Puts.{WritesFront, WritesOne};
-ghost use Rattle.session.specs.inner.Questions.{Answerable, AnsweredAsked, BookOf, asked};
 
-use crate::{AnswerError, Book, Question};
+use crate::passing::Passed;
+use crate::{AnswerError, Book};
 use std::alloc::Global;
 use std::io::{self, ErrorKind, Write};
+use text::Lines;
 
 // Writes all of the bytes, by as many writes as the writer needs, also where one is interrupted.
 // The loop over `write` says what was written before an error, as `write_all` does not.
@@ -21,7 +25,10 @@ fn put<W: Write>(out: &mut W, bytes: &[u8]) -> io::Result<()>
             return Ok(());
         }
         match out.write(rest) {
-            Ok(0) => return Err(io::Error::from(ErrorKind::WriteZero)),
+            Ok(0) => {
+                let message = "failed to write whole buffer";
+                return Err(io::Error::new(ErrorKind::WriteZero, message));
+            }
             Ok(n) => rest = &rest[n..],
             Err(error) if error.kind() == ErrorKind::Interrupted => {}
             Err(error) => return Err(error),
@@ -31,31 +38,48 @@ fn put<W: Write>(out: &mut W, bytes: &[u8]) -> io::Result<()>
 }
 
 impl Book {
-    // Writes the answer to a question; the buffer is cleared first, and is lent so that it is allocated once.
+    // Writes the answer to the line whose turn it is; the buffer is cleared first, and is lent so that it is allocated once.
     fn write_answer<W: Write>(
-        &self,
-        question: &Question,
+        &mut self,
+        heap: Global,
+        number: u64,
+        line: &[u8],
+        passed: Passed,
         buffer: &mut Vec<u8>,
         out: &mut W,
-    ) -> Result<(), AnswerError>
-        requires { Answerable self.now question.now }
-        ensures { WritesOne (AnsweredAsked (held self.now) self.now.numbers.items (asked question.now)) result (W.contents out.old) (W.contents out.new) }
+    ) -> Result<Passed, AnswerError>
+        requires indexed { AllIndexed (held self.old).papers self.old.indexes.items }
+        requires left { (rest : List (List ℕ)) × Left (held self.old).papers self.old.unreadable.items passed number (line.now ∷ rest) }
+        ensures quiet { StoresNothing (meaning line.now) → IsOk result × Keeps (W.contents out.old) (W.contents out.new) }
+        ensures same { SameHeld self.old self.new }
+        ensures written { WritesOne (Answered (held self.old) self.old.numbers.items number (meaning line.now)) result (W.contents out.old) (W.contents out.new) }
+        ensures passed { IfOk result (λ p. (rest : List (List ℕ)) → Left (held self.old).papers self.old.unreadable.items passed number (line.now ∷ rest) → Left (held self.old).papers self.old.unreadable.items p (suc number) rest) }
     {
-        buffer.clear();
-        self.answer(question, buffer)?;
-        put(out, buffer)?;
-        Ok(())
+        let next = self.answer_line(heap, number, line, passed, buffer)?;
+        if !buffer.is_empty() {
+            put(out, buffer)?;
+        }
+        Ok(next)
     }
 
-    // Writes the answers to the questions, one after the other.
-    fn write_answers<W: Write>(&self, heap: Global, out: &mut W) -> Result<(), AnswerError>
-        requires { (text : List ℕ) × BookOf text self.now }
-        ensures quiet { self.now.questions.items ≡ [] → IsOk result × Keeps (W.contents out.old) (W.contents out.new) }
-        ensures written { (text : List ℕ) → BookOf text self.now → WritesAnswer text (W.contents out.old) (W.contents out.new) result }
+    // Writes the answers to the lines of the book's text, one after the other.
+    fn write_answers<W: Write>(
+        &mut self,
+        heap: Global,
+        text: &[u8],
+        out: &mut W,
+    ) -> Result<(), AnswerError>
+        requires { BookOf text.now self.old }
+        ensures quiet { NothingStored text.now → IsOk result × Keeps (W.contents out.old) (W.contents out.new) }
+        ensures written { WritesAnswer text.now (W.contents out.old) (W.contents out.new) result }
     {
         let mut buffer = Vec::new(heap);
-        for question in &self.questions {
-            self.write_answer(question, &mut buffer, out)?;
+        let mut passed = Passed {
+            papers: 0,
+            unreadable: 0,
+        };
+        for (number, line) in Lines::new(text).enumerate() {
+            passed = self.write_answer(heap, number as u64, line, passed, &mut buffer, out)?;
         }
         Ok(())
     }
@@ -67,6 +91,6 @@ pub fn answer_text<W: Write>(heap: Global, text: &[u8], out: &mut W) -> Result<(
     ensures written { WritesAnswer text.now (W.contents out.old) (W.contents out.new) result }
     ensures quiet { NothingStored text.now → IsOk result × Keeps (W.contents out.old) (W.contents out.new) }
 {
-    let book = Book::read(heap, text)?;
-    book.write_answers(heap, out)
+    let mut book = Book::read(heap, text)?;
+    book.write_answers(heap, text, out)
 }

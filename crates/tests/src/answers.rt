@@ -1,4 +1,4 @@
-// Tests of the crate `session`: writers that take little, are interrupted and fail. Whole texts are in tests/texts.
+// Tests of the crate `session`: a paper that is asked about many times, and writers that take little, are interrupted and fail. Whole texts are in tests/texts.
 #[cfg(test)]
 mod tests {
     use session::{AnswerError, answer_text};
@@ -42,6 +42,26 @@ mod tests {
         let mut out = Vec::new(heap);
         answer_text(heap, text, &mut out)?;
         Ok(out)
+    }
+
+    #[test]
+    fn a_paper_asked_about_many_times(rt: HostRuntime) -> Result<(), Fail> {
+        let heap = rt.alloc();
+        let mut text = Vec::new(heap);
+        let mut whole = Vec::new(heap);
+        text.extend_from_slice(b"paper ")?;
+        for _ in 0..150 {
+            text.extend_from_slice(b"01020708")?;
+            whole.extend_from_slice(b"01 07 08\n")?;
+        }
+        text.push(b'\n')?;
+        for _ in 0..60 {
+            text.extend_from_slice(b"piece 0 149\n")?;
+            whole.extend_from_slice(b"01 02 07 08\n")?;
+        }
+        let said = answers(heap, &text)?;
+        assert!(rt; said.as_slice() == whole.as_slice());
+        Ok(())
     }
 
     #[test]

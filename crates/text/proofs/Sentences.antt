@@ -7,6 +7,7 @@ use Rattle.std.proofs.lemmas.Bool.{eqb-true}
 use Rattle.std.proofs.lemmas.Slice.Eq.{bytes_eq-Decides}
 use Rattle.text.specs.inner.Figures.{both, number, numbers, word_bytes, bytes_of, all_of}
 use Rattle.text.specs.Grammar.{IsNumber, HexWords, no_word, word, LineMeans, blank_line, comment_line, paper_line, seals_line, trusted_line, piece_line, chain_line}
+use Rattle.text.specs.Heads.{head_of, words_head}
 use Rattle.text.specs.Meaning.{Meaning, nothing, paper, seals, trusted, piece, chain, mark_limit, number_limit, meaning}
 use Rattle.text.specs.inner.Saying.{comment, key_of, only_number, day_of, chain_of, piece_of, rest_says, words_say}
 use Rattle.text.specs.Promise.{MeaningStand}
@@ -198,3 +199,17 @@ module _ (line ws : List (List ℕ)) (w : List ℕ) (k : Key) (is : line ≡ w �
 pub meaning_stand : MeaningStand
 unfolding meaning
 meaning_stand line m = (words_mean (words line) m, words_only_say (words line) m)
+
+-- the head of a line that can be read
+heads_say : (ws : List (List ℕ)) (m : Meaning) → LineMeans ws m → words_head ws ≡ head_of m
+heads_say ws m blank_line = refl
+heads_say ws m (comment_line text vs) = refl
+heads_say ws m (paper_line h) = refl
+heads_say ws m (seals_line h) = refl
+heads_say ws m (trusted_line h) = refl
+heads_say ws m (piece_line h k) = refl
+heads_say ws m (chain_line h i) = refl
+
+pub head_said : (line : List ℕ) (m : Meaning) → meaning line ≡ Some m → words_head (words line) ≡ head_of m
+unfolding meaning
+head_said line m e = heads_say (words line) m (words_mean (words line) m e)

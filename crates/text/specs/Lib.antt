@@ -1,4 +1,5 @@
 pub mod Grammar
+pub mod Heads
 pub mod Meaning
 pub mod Promise
 pub mod Reading

@@ -1,7 +1,8 @@
 // Lines read as commands.
-ghost use Rattle.std.specs.Prelude.{◌≡◌, ◌<◌, length};
+ghost use Rattle.std.specs.Prelude.{◌≡◌, ◌<◌, length, Some};
 ghost use Rattle.std.specs.Option.{option_map};
-ghost use Rattle.text.specs.Meaning.{meaning, says};
+ghost use Rattle.text.specs.Heads.{head_by, head_of, words_head};
+ghost use Rattle.text.specs.Meaning.{Meaning, meaning, says};
 ghost use Rattle.text.specs.inner.Saying.{key_of, only_number, day_of, chain_of, piece_of, words_say};
 ghost use Rattle.text.specs.Reading.{ReadsAs, StoresWords};
 ghost use Rattle.text.specs.Tokens.{words as words_of};
@@ -26,6 +27,14 @@ pub enum Command {
     Piece { paper: u64, path: Vec<u64> },
     // A shortest chain from a paper on a day.
     Chain { first: u64, day: u64 },
+}
+
+// What a line brings if it can be read, by its first word: a paper, marks, or nothing.
+#[derive(Clone, Copy, PartialEq, Eq, Debug)]
+pub enum Head {
+    Paper,
+    Marks,
+    Other,
 }
 
 // What a line is about, by its first word.
@@ -119,4 +128,26 @@ pub fn read_line(heap: Global, line: &[u8]) -> Result<Command, LineError>
     ensures { ReadsAs says result (meaning line.now) (StoresWords (words_of line.now)) }
 {
     read_words(heap, Words::new(line))
+}
+
+// What the lines that begin with a word bring.
+fn word_head(word: &[u8]) -> Head
+    ensures { result ≡ head_by word.now }
+{
+    match word {
+        b"paper" => Head::Paper,
+        b"seals" | b"trusted" => Head::Marks,
+        _ => Head::Other,
+    }
+}
+
+// What a line brings if it can be read, told from its first word alone.
+pub fn read_head(line: &[u8]) -> Head
+    ensures words { result ≡ words_head (words_of line.now) }
+    ensures said { (m : Meaning) → meaning line.now ≡ Some m → result ≡ head_of m }
+{
+    match Words::new(line).next() {
+        Some(word) => word_head(word),
+        None => Head::Other,
+    }
 }

@@ -13,7 +13,7 @@ pub use answers::{
     append_bytes, append_chain, append_element, append_ill, append_none, append_rejection,
     append_unreadable,
 };
-pub use command::{Command, read_line};
+pub use command::{Command, Head, read_head, read_line};
 pub use error::LineError;
 pub use tokens::{Lines, Words};
 

@@ -1,10 +1,9 @@
 -- What a book in memory holds.
-use Rattle.std.specs.Prelude.{◌≡◌, ℕ, ◌≤◌, List, ◌++◌, length, map, slice_index, vec_items}
-use Rattle.std.specs.List.{All}
+use Rattle.std.specs.Prelude.{◌≡◌, ℕ, ◌≤◌, List, ◌++◌, length, map, slice_index, slice_index_or, vec_items, None, Option, Box, IfSome, ◌<◌}
 use Rattle.element.specs.Indexed.{IndexOf}
 use Rattle.trust.specs.Chains.{Certificate}
 use Rattle.session.specs.declared.Book.{Book}
-use Rattle.session.specs.declared.papers.Paper.{Paper}
+use Rattle.element.specs.declared.index.Index.{Index}
 use Rattle.certificate.specs.Permits.{Permit}
 use Rattle.chain.specs.Inputs.{certificate_at}
 use Rattle.session.specs.Books.{Brought, paper_at}
@@ -13,20 +12,20 @@ use Rattle.session.specs.Books.{Brought, paper_at}
 abbrev pub added : Brought → Brought → Brought
 added a b = record { papers = a.papers ++ b.papers; seals = a.seals ++ b.seals; trusted = a.trusted ++ b.trusted }
 
-abbrev pub paper_bytes : Paper → List ℕ
-paper_bytes p = vec_items p.bytes
-
--- the index is that of the bytes
-abbrev pub Indexed : Paper → Type 0
-Indexed p = IndexOf (paper_bytes p) p.index
-
--- each paper has its index
-abbrev pub AllIndexed : Book → Type 0
-AllIndexed b = All Indexed (vec_items b.papers)
+-- an index, if there is one, is that of the paper at its place
+abbrev pub AllIndexed : {Z : Type 0} (papers : List (List ℕ)) → (indexes : List (Option (Box Index Z))) → Type 0
+AllIndexed papers indexes = (i : ℕ) → i < length indexes → IfSome (slice_index_or indexes i None) (λ x. IndexOf (paper_at papers i) x.value)
 
 -- the bytes of the papers in memory, and the marks
 abbrev pub held : Book → Brought
-held b = record { papers = map paper_bytes (vec_items b.papers); seals = vec_items b.seals; trusted = vec_items b.trusted }
+held b = record { papers = map vec_items (vec_items b.papers); seals = vec_items b.seals; trusted = vec_items b.trusted }
+
+-- a book holds what it held, and each index is that of its paper
+pub record SameHeld (was is : Book) : Type 0 where
+  pub indexed : AllIndexed (held is).papers (vec_items is.indexes)
+  pub held : held is ≡ held was
+  pub numbers : vec_items is.numbers ≡ vec_items was.numbers
+  pub unreadable : vec_items is.unreadable ≡ vec_items was.unreadable
 
 -- six numbers as the input of a pool has them: they say this certificate, and the flag is 0 or 1
 pub record SixNumbers (six : List ℕ) (c : Certificate) : Type 0 where

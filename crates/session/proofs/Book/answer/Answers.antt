@@ -1,14 +1,15 @@
-use Rattle.std.proofs.Common.{sym, ap, subst, arith}
-use Rattle.std.proofs.lemmas.List.Elements.{All-get_or}
-use Rattle.session.specs.inner.Held.{Indexed}
-use Rattle.session.specs.inner.Questions.{asked}
-use Rattle.session.proofs.Chaining.{papers_count}
+use Rattle.std.proofs.Common.{sym, subst}
+use Rattle.session.specs.Answers.{Answered}
+use Rattle.session.specs.inner.Held.{held}
+use Rattle.session.specs.inner.Puts.{PutsIfOk}
+use Rattle.session.proofs.Putting.{on_ok}
+use Rattle.session.proofs.Quiet.{stores_quiet}
 use Rattle.session.proofs.Book.answer.Goals as goal
 
-pub index-requires : goal.index-requires
-index-requires c = let there = c.requires.there c.in-Paper.number (ap asked c.in-Paper.is) in omega (arith, papers_count c.args.self.now.papers)
+pub returns-in-Ok-clause-answer : goal.returns-in-Ok-clause-answer
+returns-in-Ok-clause-answer c =
+    let b = c.args.self.now in
+    subst (λ o. PutsIfOk (Answered (held b) b.numbers.items c.args.number o) c.answer_command.result c.args.out.now.items c.answer_command.new.out.items) (sym c.in-Ok.ensures) (on_ok _ _ _ _ (c.answer_command.ensures.answer c.args.number))
 
-pub answer_paper-requires : goal.answer_paper-requires
-answer_paper-requires c =
-    let there = c.requires.there c.in-Paper.number (ap asked c.in-Paper.is) in
-    subst Indexed (sym c.index.ensures) (All-get_or Indexed c.args.self.now.papers.items c.in-Paper.number c.index.result.now (omega (arith, papers_count c.args.self.now.papers, c.args.self.now.papers.ok.0)) c.requires.indexed)
+pub returns-in-Err-Memory-clause-quiet : goal.returns-in-Err-Memory-clause-quiet
+returns-in-Err-Memory-clause-quiet c = λ q. absurd (stores_quiet _ (rw c.in-Err-Memory.field-0-is at c.in-Err-Memory.ensures) q)

@@ -1,25 +1,23 @@
-use Rattle.std.proofs.Common.{[], length, vec_items, ap, subst, arith}
-use Rattle.session.specs.Books.{Numbers}
-use Rattle.session.proofs.Known.{appends_same, keeps_same}
-use Rattle.session.proofs.Telling.{told_none}
-use Rattle.session.proofs.Cutting.{answerable, turn_over, turn_failed, all_told, none_left}
+use Rattle.std.specs.Iterator.Adapters.{enumerate_source}
+use Rattle.std.proofs.Common.{suc, sym, ap, ◌∙◌, subst, add-one}
+use Rattle.text.specs.Tokens.{lines}
+use Rattle.session.specs.declared.passing.Passed.{Passed}
+use Rattle.session.proofs.Cutting.{Turn, next_turn, turn_failed}
+use Rattle.session.proofs.Known.{keeps_more}
+use Rattle.session.proofs.Quiet.{first_quiet, rest_quiet}
 use Rattle.session.proofs.Book.write_answers.Goals as goal
 
-pub loop-question-init : goal.loop-question-init
-loop-question-init g c = ((λ none. keeps_same _), (λ text b. ([], told_none text _ _ b.questions, appends_same _)))
+pub loop-number-preserved : goal.loop-number-preserved
+loop-number-preserved g c =
+    let steps = c.in-Some.ensures.steps in
+    let said = c.in_ok-passed.ensures in
+    let (quiet, turn) = c.loop-number.invariant in
+    let here = subst (λ k. Turn c.args.text.now c.loop-number.self c.loop-number.passed k (lines (enumerate_source c.loop-number.number-iterator).rest.now) (g.W.Write.contents c.args.out.now) (g.W.Write.contents c.loop-number.out)) (sym steps.1) turn in
+    (λ q. let (still, kept) = quiet q in (rest_quiet _ _ _ steps.0 still, keeps_more _ _ _ kept (said.quiet (first_quiet _ _ _ steps.0 still)).1), next_turn _ _ _ _ _ _ _ here _ _ steps.0 {T = Passed} c.in_ok-passed.passed _ _ _ _ (steps.2 ∙ add-one _ ∙ ap suc (sym steps.1)) said.same said.written said.passed)
 
-pub write_answer-requires : goal.write_answer-requires
-write_answer-requires g c = answerable c.args.self.now c.requires.0 c.requires.1 _ c.deref-question-items.ensures.value _ _ c.loop-question-test.true c.question-item.is _ _ (c.loop-question.invariant.1 c.requires.0 c.requires.1)
-
-pub returns-in_err-write_answer-clause-written : goal.returns-in_err-write_answer-clause-written
-returns-in_err-write_answer-clause-written g c = λ text b. turn_failed c.args.self.now text b _ c.deref-question-items.ensures.value _ _ c.loop-question-test.true c.question-item.is _ _ (c.loop-question.invariant.1 text b) _ _ c.in_err-write_answer.field-0.0 c.from_residual.ensures.1 c.in_err-write_answer.ensures
-
-pub loop-question-preserved : goal.loop-question-preserved
-loop-question-preserved g c = (
-  (λ none. absurd (omega (arith, c.loop-question-test.true, ap length c.deref-question-items.ensures.value, ap length none))),
-  (λ text b. turn_over c.args.self.now text b _ c.deref-question-items.ensures.value _ _ c.loop-question-test.true c.question-item.is _ _ (c.loop-question.invariant.1 text b) _ c.in_ok-write_answer.ensures),
-)
-
-pub returns-clause-written : goal.returns-clause-written
-returns-clause-written g c = λ text b.
-    all_told text (vec_items c.args.self.now.numbers) (subst (λ t. Numbers t.papers (vec_items c.args.self.now.numbers)) b.whole b.numbers) _ _ _ (none_left _ _ _ c.deref-question-items.ensures.value c.loop-question-test.false) (c.loop-question.invariant.1 text b)
+pub returns-in_err-passed-clause-written : goal.returns-in_err-passed-clause-written
+returns-in_err-passed-clause-written g c =
+    let steps = c.in-Some.ensures.steps in
+    let (quiet, turn) = c.loop-number.invariant in
+    let here = subst (λ k. Turn c.args.text.now c.loop-number.self c.loop-number.passed k (lines (enumerate_source c.loop-number.number-iterator).rest.now) (g.W.Write.contents c.args.out.now) (g.W.Write.contents c.loop-number.out)) (sym steps.1) turn in
+    turn_failed _ _ _ _ _ _ _ here _ _ steps.0 Passed _ _ _ c.from_residual.ensures.1 c.in_err-passed.ensures.written

@@ -1,8 +1,10 @@
-use Rattle.std.proofs.Common.{◌≡◌, ℕ, List, [], map, drop, vec_items}
+use Rattle.std.specs.Iterator.Adapters.{enumerate_source, enumerate_count}
 use Rattle.std.specs.Io.KnownBytes.{Keeps}
-use Rattle.session.specs.inner.Questions.{asked, BookOf}
-use Rattle.session.proofs.Cutting.{SoFar}
+use Rattle.text.specs.Tokens.{lines}
+use Rattle.session.proofs.Cutting.{Turn}
+use Rattle.session.proofs.Quiet.{Quiet}
 use Rattle.session.proofs.Book.write_answers.Given as goal
 
-abbrev pub invariant-loop-question : goal.invariant-loop-question
-invariant-loop-question g l = (vec_items l.self.questions ≡ [] → Keeps (g.W.Write.contents l.initial.out) (g.W.Write.contents l.out)) × ((text : List ℕ) → BookOf text l.self → SoFar text (vec_items l.self.numbers) (map asked (drop l.question-index (vec_items l.self.questions))) (g.W.Write.contents l.initial.out) (g.W.Write.contents l.out))
+abbrev pub invariant-loop-number : goal.invariant-loop-number
+invariant-loop-number g l =
+    (Quiet (lines l.text) → Quiet (lines (enumerate_source l.number-iterator).rest.now) × Keeps (g.W.Write.contents l.initial.out) (g.W.Write.contents l.out)) × Turn l.text l.self l.passed (enumerate_count l.number-iterator) (lines (enumerate_source l.number-iterator).rest.now) (g.W.Write.contents l.initial.out) (g.W.Write.contents l.out)

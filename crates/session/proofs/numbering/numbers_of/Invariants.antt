@@ -1,7 +1,6 @@
 use Rattle.std.proofs.Common.{map, vec_items}
-use Rattle.session.specs.inner.Held.{paper_bytes}
 use Rattle.session.proofs.Sixes.{Counted}
 use Rattle.session.proofs.numbering.numbers_of.Given as goal
 
 abbrev pub invariant-loop-paper : goal.invariant-loop-paper
-invariant-loop-paper l = Counted (map paper_bytes l.papers) (vec_items l.numbers) l.paper-index
+invariant-loop-paper l = Counted (map vec_items l.papers) (vec_items l.numbers) l.paper-index
