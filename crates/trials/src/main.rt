@@ -1,5 +1,5 @@
-// Tries the crates on drawn bytes and pools, against a plain reader and against all chains. With the argument `memory` it
-// calls the functions that write elements or note them instead: tests/memory/run refuses their allocations.
+// Tries the crates on drawn bytes and pools, against a plain reader and against all chains. Where the environment has
+// TRIALS=memory it calls the functions that write elements or note them instead: tests/memory/run refuses their allocations.
 #![tactic(auto)]
 
 mod bytes;
@@ -8,7 +8,6 @@ mod pools;
 mod tally;
 mod writers;
 
-use anyhow::anyhow;
 use bytes::{draw_deep, draw_long, draw_short, try_strings};
 use draws::Draws;
 use pools::try_pools;
@@ -62,9 +61,8 @@ fn try_draws(rt: &HostRuntime) -> anyhow::Result<()> {
 }
 
 fn main(rt: HostRuntime) -> anyhow::Result<()> {
-    match env::args(&rt)?.nth(1) {
-        None => try_draws(&rt),
-        Some(word) if word.as_str() == "memory" => try_writers(&rt),
-        Some(_) => Err(anyhow!("no argument, or `memory`")),
+    match env::var(&rt, "TRIALS") {
+        Ok(word) if word.as_str() == "memory" => try_writers(&rt),
+        _ => try_draws(&rt),
     }
 }
