@@ -1,5 +1,5 @@
 -- What is written of a text's answer, when one more line is answered or it fails.
-use Rattle.std.proofs.Common.{◌≡◌, ℕ, suc, List, [], ◌∷◌, ◌++◌, drop, vec_items, Ok, Err, Option, Result, inl, inr, sym, ap, ◌∙◌, subst, append-nil}
+use Rattle.std.proofs.Common.{◌≡◌, ℕ, suc, List, [], ◌∷◌, ◌++◌, true, vec_items, Ok, Err, Option, Result, inl, inr, sym, ap, ◌∙◌, subst, append-nil}
 use Rattle.std.specs.Result.{IsErrAnd}
 use Rattle.std.specs.Io.KnownBytes.{Appends}
 use Rattle.std.specs.declared.alloc.AllocError.{AllocError}
@@ -8,7 +8,6 @@ use Rattle.text.specs.Tokens.{lines}
 use Rattle.session.specs.declared.Book.{Book}
 use Rattle.session.specs.declared.error.AnswerError.{AnswerError}
 use Rattle.session.specs.declared.error.AnswerError.TheVariants.{Memory, Write}
-use Rattle.session.specs.declared.passing.Passed.{Passed}
 use Rattle.session.specs.Books.{Brought, brought, Numbers}
 use Rattle.session.specs.Answers.{Answered}
 use Rattle.session.specs.Writing.{WritesAnswer}
@@ -40,38 +39,38 @@ module _ (text numbers : List ℕ) (book : Brought) (same : book ≡ brought tex
   failed T permits (Err x) e a b c h s w = subst (λ y. WritesAnswer text a c (Err y)) (sym h) (cut_short T permits e a b c s w)
 
 -- a book of the text, what is left of it, and what has been written
-pub record Turn (text : List ℕ) (book : Book) (passed : Passed) (n : ℕ) (rest : List (List ℕ)) (old now : Option (List ℕ)) : Type 0 where
+pub record Turn (text : List ℕ) (book : Book) (passed : ℕ) (n : ℕ) (rest : List (List ℕ)) (old now : Option (List ℕ)) : Type 0 where
   pub whole : held book ≡ brought text
   pub numbers : Numbers (held book).papers (vec_items book.numbers)
   pub indexed : AllIndexed (held book).papers (vec_items book.indexes)
-  pub left : Left (held book).papers (vec_items book.unreadable) passed n rest
+  pub left : book.all_read ≡ true → Left (held book).papers passed rest
   pub said : SoFar text (vec_items book.numbers) n rest old now
 
-pub first_turn : (text : List ℕ) (book : Book) (passed : Passed) (n : ℕ) (rest : List (List ℕ)) (old : Option (List ℕ)) → BookOf text book → passed.papers ≡ 0 → passed.unreadable ≡ 0 → n ≡ 0 → rest ≡ lines text → Turn text book passed n rest old old
-first_turn text book passed n rest old b p u z e =
+pub first_turn : (text : List ℕ) (book : Book) (passed : ℕ) (n : ℕ) (rest : List (List ℕ)) (old : Option (List ℕ)) → BookOf text book → passed ≡ 0 → n ≡ 0 → rest ≡ lines text → Turn text book passed n rest old old
+first_turn text book passed n rest old b p z e =
     subst (λ k. Turn text book passed k rest old old) (sym z)
     (subst (λ l. Turn text book passed 0 l old old) (sym e) (record {
       whole = b.whole;
       numbers = b.numbers;
       indexed = b.indexed;
-      left = record { before = []; count = p; papers_left = ap (λ h. h.papers) b.whole; unread_left = ap (λ k. drop k (vec_items book.unreadable)) u ∙ b.unreadable };
+      left = λ t. record { before = []; count = p; papers_left = ap (λ h. h.papers) b.whole; readable = b.readable t };
       said = ([], told_none text (vec_items book.numbers), appends_same old);
     }))
 
-module _ (text : List ℕ) (was : Book) (passed : Passed) (n : ℕ) (rest : List (List ℕ)) (old now : Option (List ℕ)) (t : Turn text was passed n rest old now) (line : List ℕ) (left : List (List ℕ)) (e : rest ≡ line ∷ left) where
-  pub here : Left (held was).papers (vec_items was.unreadable) passed n (line ∷ left)
-  here = subst (Left (held was).papers (vec_items was.unreadable) passed n) e t.left
+module _ (text : List ℕ) (was : Book) (passed : ℕ) (n : ℕ) (rest : List (List ℕ)) (old now : Option (List ℕ)) (t : Turn text was passed n rest old now) (line : List ℕ) (left : List (List ℕ)) (e : rest ≡ line ∷ left) where
+  pub here : was.all_read ≡ true → Left (held was).papers passed (line ∷ left)
+  here read = subst (Left (held was).papers passed) e (t.left read)
 
   said_here : SoFar text (vec_items was.numbers) n (line ∷ left) old now
   said_here = subst (λ l. SoFar text (vec_items was.numbers) n l old now) e t.said
 
-  pub next_turn : {T : Type 0} (x : T) (is : Book) (next : Passed) (m : ℕ) (new : Option (List ℕ)) → m ≡ suc n → SameHeld was is → WritesOne (Answered (held was) (vec_items was.numbers) n (meaning line)) (Ok x) now new → ((l : List (List ℕ)) → Left (held was).papers (vec_items was.unreadable) passed n (line ∷ l) → Left (held was).papers (vec_items was.unreadable) next (suc n) l) → Turn text is next m left old new
+  pub next_turn : {T : Type 0} (x : T) (is : Book) (next : ℕ) (m : ℕ) (new : Option (List ℕ)) → m ≡ suc n → SameHeld was is → WritesOne (Answered (held was) (vec_items was.numbers) n (meaning line)) (Ok x) now new → (was.all_read ≡ true → (l : List (List ℕ)) → Left (held was).papers passed (line ∷ l) → Left (held was).papers next l) → Turn text is next m left old new
   next_turn x is next m new step same w goes =
       subst (λ k. Turn text is next k left old new) (sym step) (record {
         whole = same.held ∙ t.whole;
         numbers = subst (λ b. Numbers b.papers (vec_items is.numbers)) (sym same.held) (subst (Numbers (held was).papers) (sym same.numbers) t.numbers);
         indexed = same.indexed;
-        left = subst (λ b. Left b.papers (vec_items is.unreadable) next (suc n) left) (sym same.held) (subst (λ u. Left (held was).papers u next (suc n) left) (sym same.unreadable) (goes left here));
+        left = λ read. let before = sym same.all_read ∙ read in subst (λ b. Left b.papers next left) (sym same.held) (goes before left (here before));
         said = subst (λ ns. SoFar text ns (suc n) left old new) (sym same.numbers) (so_far text (vec_items was.numbers) (held was) t.whole n line left x old now new said_here w);
       })
 
@@ -79,7 +78,7 @@ module _ (text : List ℕ) (was : Book) (passed : Passed) (n : ℕ) (rest : List
   turn_failed T new r x h w =
       failed text (vec_items was.numbers) (held was) t.whole n line left T (subst (λ b. Numbers b.papers (vec_items was.numbers)) t.whole t.numbers) r x old now new h said_here w
 
-pub all_told : (text : List ℕ) (book : Book) (passed : Passed) (n : ℕ) (rest : List (List ℕ)) (old now : Option (List ℕ)) → Turn text book passed n rest old now → rest ≡ [] → WritesAnswer text old now (Ok tt)
+pub all_told : (text : List ℕ) (book : Book) (passed : ℕ) (n : ℕ) (rest : List (List ℕ)) (old now : Option (List ℕ)) → Turn text book passed n rest old now → rest ≡ [] → WritesAnswer text old now (Ok tt)
 all_told text book passed n rest old now t none =
     let s = subst (λ l. SoFar text (vec_items book.numbers) n l old now) none t.said in
     (s.0, text_answered text (vec_items book.numbers) (subst (λ b. Numbers b.papers (vec_items book.numbers)) t.whole t.numbers) s.0 n s.1, s.2)

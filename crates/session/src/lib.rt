@@ -19,9 +19,10 @@ pub use promise::{
 };
 pub use writing::answer_text;
 
-// All that a text brings: papers, signature marks, anchor marks; and the numbers of the lines that begin as ones that bring something and can't be read.
+// All that a text brings: papers, signature marks, anchor marks.
 // `numbers` has six numbers for each of the leading papers that are permits, as the input of a pool has them.
 // `indexes` has the index of a paper at its place once the elements are noted; behind its end stands none.
+// `all_read` is whether each line that begins as one that brings something could be read.
 // `walks` is how many bytes of papers may still be walked through in search of elements before a paper's elements are noted. At first it is a multiple of the size of the text.
 #[derive(Drop)]
 struct Book {
@@ -29,7 +30,7 @@ struct Book {
     seals: Vec<u8>,
     trusted: Vec<u8>,
     numbers: Vec<u32>,
-    unreadable: Vec<u64>,
+    all_read: bool,
     indexes: Vec<Option<Box<Index>>>,
     walks: usize,
 }

@@ -1,10 +1,10 @@
 // A book made of a text.
-ghost use Rattle.std.specs.Prelude.{◌≡◌, [], ◌++◌, IfOk, IsOk, OnOk, Some};
-ghost use Rattle.text.specs.Meaning.{meaning, says};
+ghost use Rattle.std.specs.Prelude.{◌≡◌, [], true, IfOk, IsOk, OnOk, Some};
+ghost use Rattle.text.specs.Meaning.{Meaning, meaning, says};
 ghost use Rattle.session.specs.Books.{nothing_brought, brings};
 ghost use Rattle.session.specs.Writing.{StoresNothing, NothingStored};
 ghost use Rattle.session.specs.inner.Held.{added, held};
-ghost use Rattle.session.specs.inner.Passing.{BookOf, unread_line};
+ghost use Rattle.session.specs.inner.Passing.{BookOf};
 
 use crate::Book;
 use crate::numbering::numbers_of;
@@ -19,14 +19,13 @@ impl Book {
     fn new(heap: Global, size: usize) -> Book
         ensures no_index { result.indexes.items ≡ [] }
         ensures held { held result ≡ nothing_brought }
-        ensures unreadable { result.unreadable.items ≡ [] }
     {
         Book {
             papers: Vec::new(heap),
             seals: Vec::new(heap),
             trusted: Vec::new(heap),
             numbers: Vec::new(heap),
-            unreadable: Vec::new(heap),
+            all_read: true,
             indexes: Vec::new(heap),
             walks: size.saturating_mul(WALKS),
         }
@@ -37,7 +36,7 @@ impl Book {
         ensures quiet { StoresNothing (Some (says command)) → IsOk result }
         ensures no_index { self.new.indexes.items ≡ self.old.indexes.items }
         ensures held { OnOk result (held self.new ≡ added (held self.old) (brings (Some (says command)))) }
-        ensures unreadable { self.new.unreadable.items ≡ self.old.unreadable.items }
+        ensures all_read { self.new.all_read ≡ self.old.all_read }
     {
         match command {
             Command::Paper(bytes) => Ok(self.papers.push(bytes)?),
@@ -47,16 +46,19 @@ impl Book {
         }
     }
 
-    // Takes in what a line brings, or its number if it can't be read.
-    fn note_line(&mut self, heap: Global, number: u64, line: &[u8]) -> Result<(), AllocError>
+    // Takes in what a line brings, or that it can't be read.
+    fn note_line(&mut self, heap: Global, line: &[u8]) -> Result<(), AllocError>
         ensures quiet { StoresNothing (meaning line.now) → IsOk result }
         ensures no_index { self.new.indexes.items ≡ self.old.indexes.items }
         ensures held { OnOk result (held self.new ≡ added (held self.old) (brings (meaning line.now))) }
-        ensures unreadable { OnOk result (self.new.unreadable.items ≡ self.old.unreadable.items ++ unread_line number (meaning line.now)) }
+        ensures all_read { OnOk result (self.new.all_read ≡ true → (self.old.all_read ≡ true) × (m : Meaning) × (meaning line.now ≡ Some m)) }
     {
         match read_line(heap, line) {
             Ok(command) => self.note(command),
-            Err(LineError::Unreadable) => Ok(self.unreadable.push(number)?),
+            Err(LineError::Unreadable) => {
+                self.all_read = false;
+                Ok(())
+            }
             Err(LineError::Memory(error)) => Err(error),
         }
     }
@@ -67,9 +69,9 @@ impl Book {
         ensures quiet { NothingStored text.now → IsOk result }
     {
         let mut book = Book::new(heap, text.len());
-        for (number, line) in Lines::new(text).enumerate() {
+        for line in Lines::new(text) {
             if read_head(line) != Head::Other {
-                book.note_line(heap, number as u64, line)?;
+                book.note_line(heap, line)?;
             }
         }
         book.numbers = numbers_of(heap, &book.papers)?;

@@ -1,5 +1,5 @@
 // The answer of a text, written.
-ghost use Rattle.std.specs.Prelude.{ℕ, suc, ◌∷◌, List, IfOk, IsOk};
+ghost use Rattle.std.specs.Prelude.{◌≡◌, ℕ, ◌∷◌, List, true, IfOk, IsOk};
 ghost use Rattle.std.specs.Io.KnownBytes.{Keeps};
 ghost use Rattle.text.specs.Meaning.{meaning};
 ghost use Rattle.session.specs.Answers.{Answered};
@@ -8,7 +8,6 @@ ghost use Rattle.session.specs.inner.Held.{AllIndexed, SameHeld, held};
 ghost use Rattle.session.specs.inner.Passing.{BookOf, Left};
 ghost use Rattle.session.specs.inner.Puts.{WritesFront, WritesOne};
 
-use crate::passing::Passed;
 use crate::{AnswerError, Book};
 use std::alloc::Global;
 use std::io::{self, ErrorKind, Write};
@@ -44,16 +43,16 @@ impl Book {
         heap: Global,
         number: u64,
         line: &[u8],
-        passed: Passed,
+        passed: usize,
         buffer: &mut Vec<u8>,
         out: &mut W,
-    ) -> Result<Passed, AnswerError>
+    ) -> Result<usize, AnswerError>
         requires indexed { AllIndexed (held self.old).papers self.old.indexes.items }
-        requires left { (rest : List (List ℕ)) × Left (held self.old).papers self.old.unreadable.items passed number (line.now ∷ rest) }
+        requires left { self.old.all_read ≡ true → (rest : List (List ℕ)) × Left (held self.old).papers passed (line.now ∷ rest) }
         ensures quiet { StoresNothing (meaning line.now) → IsOk result × Keeps (W.contents out.old) (W.contents out.new) }
         ensures same { SameHeld self.old self.new }
         ensures written { WritesOne (Answered (held self.old) self.old.numbers.items number (meaning line.now)) result (W.contents out.old) (W.contents out.new) }
-        ensures passed { IfOk result (λ p. (rest : List (List ℕ)) → Left (held self.old).papers self.old.unreadable.items passed number (line.now ∷ rest) → Left (held self.old).papers self.old.unreadable.items p (suc number) rest) }
+        ensures passed { IfOk result (λ p. self.old.all_read ≡ true → (rest : List (List ℕ)) → Left (held self.old).papers passed (line.now ∷ rest) → Left (held self.old).papers p rest) }
     {
         let next = self.answer_line(heap, number, line, passed, buffer)?;
         if !buffer.is_empty() {
@@ -74,10 +73,7 @@ impl Book {
         ensures written { WritesAnswer text.now (W.contents out.old) (W.contents out.new) result }
     {
         let mut buffer = Vec::new(heap);
-        let mut passed = Passed {
-            papers: 0,
-            unreadable: 0,
-        };
+        let mut passed = 0;
         for (number, line) in Lines::new(text).enumerate() {
             passed = self.write_answer(heap, number as u64, line, passed, &mut buffer, out)?;
         }

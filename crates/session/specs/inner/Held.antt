@@ -25,7 +25,7 @@ pub record SameHeld (was is : Book) : Type 0 where
   pub indexed : AllIndexed (held is).papers (vec_items is.indexes)
   pub held : held is ≡ held was
   pub numbers : vec_items is.numbers ≡ vec_items was.numbers
-  pub unreadable : vec_items is.unreadable ≡ vec_items was.unreadable
+  pub all_read : is.all_read ≡ was.all_read
 
 -- six numbers as the input of a pool has them: they say this certificate, and the flag is 0 or 1
 pub record SixNumbers (six : List ℕ) (c : Certificate) : Type 0 where

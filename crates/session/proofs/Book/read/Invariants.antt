@@ -1,4 +1,3 @@
-use Rattle.std.specs.Iterator.Adapters.{enumerate_source, enumerate_count}
 use Rattle.std.proofs.Common.{◌≡◌, [], vec_items}
 use Rattle.text.specs.Tokens.{lines}
 use Rattle.session.specs.inner.Held.{held}
@@ -6,5 +5,5 @@ use Rattle.session.proofs.Gathered.{Gathered}
 use Rattle.session.proofs.Quiet.{Quiet}
 use Rattle.session.proofs.Book.read.Given as goal
 
-abbrev pub invariant-loop-number : goal.invariant-loop-number
-invariant-loop-number l = (Quiet (lines l.text) → Quiet (lines (enumerate_source l.number-iterator).rest.now)) × (vec_items l.book.indexes ≡ []) × Gathered l.text (held l.book) (vec_items l.book.unreadable) (enumerate_count l.number-iterator) (lines (enumerate_source l.number-iterator).rest.now)
+abbrev pub invariant-loop-line : goal.invariant-loop-line
+invariant-loop-line l = (Quiet (lines l.text) → Quiet (lines l.line-iterator.rest.now)) × (vec_items l.book.indexes ≡ []) × Gathered l.text (held l.book) l.book.all_read (lines l.line-iterator.rest.now)
