@@ -1,8 +1,8 @@
 -- How a reader goes from element to element: what is behind the first one, or within it, decides.
 use Rattle.std.proofs.Common.{◌≡◌, ℕ, suc, ◌+◌, ◌<◌, ◌≤◌, Bool, true, false, Some, None, List, [], ◌∷◌, ◌++◌, length, get_or, take, drop, refl, sym, ap, ◌∙◌, subst, arith, length-take-le, take_at}
 use Rattle.std.proofs.lemmas.List.{nil_from_length, drop_at}
-use Rattle.format.specs.Elements.{first_constructed, written_length, all_bytes, Readable}
-use Rattle.format.proofs.Bytes.{all_bytes_take, all_bytes_drop}
+use Rattle.format.specs.Elements.{first_constructed, framed, written_length, all_bytes, Readable}
+use Rattle.format.proofs.Bytes.{all_bytes_take, all_bytes_drop, all_bytes_parts}
 use Rattle.format.proofs.Fronts.{frame}
 use Rattle.format.proofs.Lengths.{starts_short}
 use Rattle.format.proofs.Places.{behind_header}
@@ -101,10 +101,25 @@ module _ (d : ℕ) (b : List ℕ) (r : Rest) (h : Decides d b r) where
   pub decides_none : Leaves r.depth r.bytes.now None → 0 < length r.bytes.now → Readable d longest b false
   decides_none k some = h.same false (k some)
 
--- a short primitive element at the front: what is behind it decides
-pub passes_short : (b : List ℕ) → all_bytes b ≡ true → 2 ≤ length b → get_or b 0 0 < first_constructed → get_or b 1 0 < 128 → get_or b 1 0 ≤ length (drop 2 b) → (d : ℕ) (v : Bool) → Readable d longest (drop (get_or b 1 0) (drop 2 b)) v → Readable d longest b v
-passes_short [] bytes two low short fits d v k = absurd (omega arith)
-passes_short (t ∷ x) bytes two low short fits d v k =
+-- an element with a short length at the front
+opens_short : (b : List ℕ) (o : Opening) → all_bytes b ≡ true → 2 ≤ length b → get_or b 1 0 < 128 → get_or b 1 0 ≤ length (drop 2 b) → o.tag ≡ get_or b 0 0 → o.contents.now ≡ take (get_or b 1 0) (drop 2 b) → o.behind.now ≡ drop (get_or b 1 0) (drop 2 b) → Opens b o
+opens_short [] o bytes two short fits tag contents behind = absurd (omega arith)
+opens_short (t ∷ x) o bytes two short fits tag contents behind =
     let n = get_or x 0 0 in
     let l = length-take-le n (drop 1 x) fits in
-    after_primitive d longest t (take n (drop 1 x)) (drop n (drop 1 x)) (t ∷ x) low (all_bytes_take n (drop 1 x) (all_bytes_drop 2 (t ∷ x) bytes)) (omega (arith, l)) (frame t n (drop 1 x) (t ∷ x) fits (ap (λ y. t ∷ y) (starts_short x (omega arith) short))) v k
+    record {
+      byte = omega (arith, tag, (all_bytes_parts t x bytes).0);
+      fits = omega (arith, ap length contents, l);
+      is = frame t n (drop 1 x) (t ∷ x) fits (ap (λ y. t ∷ y) (starts_short x (omega arith) short)) ∙ (λ i. framed (sym tag i) (sym contents i) ++ sym behind i);
+    }
+
+-- what is behind an element with a short length decides where it is primitive, and what is within it where it is constructed and the last
+module _ (d : ℕ) (b : List ℕ) (r : Rest) (h : Decides d b r) (o : Opening) (two : 2 ≤ length r.bytes.now) (short : get_or r.bytes.now 1 0 < 128) (fits : get_or r.bytes.now 1 0 ≤ length (drop 2 r.bytes.now)) (tag : o.tag ≡ get_or r.bytes.now 0 0) (contents : o.contents.now ≡ take (get_or r.bytes.now 1 0) (drop 2 r.bytes.now)) (behind : o.behind.now ≡ drop (get_or r.bytes.now 1 0) (drop 2 r.bytes.now)) where
+  opens : Opens r.bytes.now o
+  opens = opens_short r.bytes.now o h.bytes two short fits tag contents behind
+
+  pub short_primitive : o.tag < first_constructed → Decides d b (record { bytes = o.behind; depth = r.depth })
+  short_primitive low = decides_on d b r h _ (leaves_primitive r.bytes.now o opens r.depth h.bytes low)
+
+  pub short_last : (inner : ℕ) → r.depth ≡ suc inner → first_constructed ≤ o.tag → length o.behind.now ≡ 0 → Decides d b (record { bytes = o.contents; depth = inner })
+  short_last inner level high last = decides_on d b r h _ (leaves_last r.bytes.now o opens r.depth inner level high h.bytes last)

@@ -1,10 +1,9 @@
 // Bytes judged: whether they are a row of elements.
-ghost use Rattle.std.specs.Prelude.{ℕ, ◌≤◌, Bool, length};
 ghost use Rattle.format.specs.Elements.{Readable};
 ghost use Rattle.element.specs.Judged.{Judged};
 ghost use Rattle.element.specs.Limits.{longest};
 ghost use Rattle.element.specs.Openings.{FrontElement};
-ghost use Rattle.element.specs.inner.Rests.{Leaves};
+ghost use Rattle.element.specs.inner.Rests.{Decides, Leaves};
 
 use crate::progress::stepping::ill_place;
 use length::Length;
@@ -89,20 +88,28 @@ impl Reader {
         rest.bytes.is_empty()
     }
 
-    // What is behind the primitive elements with short lengths at the front, read without a call.
-    fn past_short(bytes: &[u8]) -> &[u8]
-        ensures shorter { length result.now ≤ length bytes.now }
-        ensures decides { (depth : ℕ) (v : Bool) → Readable depth longest result.now v → Readable depth longest bytes.now v }
+    // Passes over elements with short lengths that need no call: primitive ones, and into a constructed one that is the last of its row. What is left decides.
+    fn past_short(bytes: &[u8], depth: usize) -> Rest<'_>
+        ensures { Decides depth bytes.now result }
     {
-        let mut rest = bytes;
-        while let [tag, size, behind @ ..] = rest {
-            if *tag >= Reader::CONSTRUCTED || *size >= Length::SHORT {
+        let mut rest = Rest { bytes, depth };
+        while let [tag, size, behind @ ..] = rest.bytes {
+            if *size >= Length::SHORT {
                 return rest;
             }
             let Some((_, after)) = behind.split_at_checked(usize::from(*size)) else {
                 return rest;
             };
-            rest = after;
+            if *tag < Reader::CONSTRUCTED {
+                rest.bytes = after;
+            } else if rest.depth > 0 && after.is_empty() {
+                rest = Rest {
+                    bytes: behind,
+                    depth: rest.depth - 1,
+                };
+            } else {
+                return rest;
+            }
         }
         rest
     }
@@ -133,11 +140,11 @@ impl Reader {
                 depth: depth - 1,
             });
         }
-        let inner = Reader::past_short(contents);
-        if inner.is_empty() {
+        let inner = Reader::past_short(contents, depth - 1);
+        if inner.bytes.is_empty() {
             return Some(after);
         }
-        if !Reader::row(inner, depth - 1) {
+        if !Reader::row(inner.bytes, inner.depth) {
             return None;
         }
         Some(after)

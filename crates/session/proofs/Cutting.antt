@@ -53,7 +53,7 @@ first_turn text book passed n rest old b p z e =
       whole = b.whole;
       numbers = b.numbers;
       indexed = b.indexed;
-      left = λ t. record { before = []; count = p; papers_left = ap (λ h. h.papers) b.whole; readable = b.readable t };
+      left = λ t. record { before = []; count = p; papers_left = ap (λ h. h.papers) b.whole; readable = b.readable.0 t };
       said = ([], told_none text (vec_items book.numbers), appends_same old);
     }))
 

@@ -13,7 +13,8 @@ use std::alloc::{AllocError, Global};
 use text::{Head, read_head};
 
 impl Book {
-    // The answer to the line whose turn it is, by its number, put behind the bytes; and how many papers have been passed then. A line that brings something is read again only if one of these lines can't be read.
+    // The answer to the line whose turn it is, by its number, put behind the bytes; and how many papers have been passed then.
+    // Lines that begin as ones that bring something are read again only where one of them can't be read.
     pub(crate) fn answer_turn(
         &mut self,
         heap: Global,
@@ -69,7 +70,7 @@ impl Book {
         }
         self.indexes = Vec::new(heap);
         self.walks = usize::MAX;
-        out.clear();
+        *out = Vec::new(heap);
         self.answer_turn(heap, number, line, passed, out)
     }
 }

@@ -1,6 +1,6 @@
 // A book made of a text.
-ghost use Rattle.std.specs.Prelude.{◌≡◌, [], true, IfOk, IsOk, OnOk, Some};
-ghost use Rattle.text.specs.Meaning.{Meaning, meaning, says};
+ghost use Rattle.std.specs.Prelude.{◌≡◌, [], true, ◌&&◌, is_some, IfOk, IsOk, OnOk, Some};
+ghost use Rattle.text.specs.Meaning.{meaning, says};
 ghost use Rattle.session.specs.Books.{nothing_brought, brings};
 ghost use Rattle.session.specs.Writing.{StoresNothing, NothingStored};
 ghost use Rattle.session.specs.inner.Held.{added, held};
@@ -19,6 +19,7 @@ impl Book {
     fn new(heap: Global, size: usize) -> Book
         ensures no_index { result.indexes.items ≡ [] }
         ensures held { held result ≡ nothing_brought }
+        ensures all_read { result.all_read ≡ true }
     {
         Book {
             papers: Vec::new(heap),
@@ -51,7 +52,7 @@ impl Book {
         ensures quiet { StoresNothing (meaning line.now) → IsOk result }
         ensures no_index { self.new.indexes.items ≡ self.old.indexes.items }
         ensures held { OnOk result (held self.new ≡ added (held self.old) (brings (meaning line.now))) }
-        ensures all_read { OnOk result (self.new.all_read ≡ true → (self.old.all_read ≡ true) × (m : Meaning) × (meaning line.now ≡ Some m)) }
+        ensures all_read { OnOk result (self.new.all_read ≡ (self.old.all_read && is_some (meaning line.now))) }
     {
         match read_line(heap, line) {
             Ok(command) => self.note(command),

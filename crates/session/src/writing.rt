@@ -13,6 +13,9 @@ use std::alloc::Global;
 use std::io::{self, ErrorKind, Write};
 use text::Lines;
 
+// How many bytes the buffer for answers has room for from the start.
+const ROOM: usize = 4096;
+
 // Writes all of the bytes, by as many writes as the writer needs, also where one is interrupted.
 // The loop over `write` says what was written before an error, as `write_all` does not.
 fn put<W: Write>(out: &mut W, bytes: &[u8]) -> io::Result<()>
@@ -72,7 +75,9 @@ impl Book {
         ensures quiet { NothingStored text.now → IsOk result × Keeps (W.contents out.old) (W.contents out.new) }
         ensures written { WritesAnswer text.now (W.contents out.old) (W.contents out.new) result }
     {
+        // With room from the start the buffer seldom grows, and so seldom comes to stand behind an index in memory.
         let mut buffer = Vec::new(heap);
+        buffer.reserve(ROOM).ok();
         let mut passed = 0;
         for (number, line) in Lines::new(text).enumerate() {
             passed = self.write_answer(heap, number as u64, line, passed, &mut buffer, out)?;

@@ -1,5 +1,5 @@
 -- What a book has of a text, and what is left of the text while its lines are answered.
-use Rattle.std.specs.Prelude.{◌≡◌, ℕ, List, ◌++◌, length, true, Some, vec_items}
+use Rattle.std.specs.Prelude.{◌≡◌, ◌↔◌, ℕ, List, ◌++◌, length, true, Some, vec_items}
 use Rattle.std.specs.List.{All}
 use Rattle.text.specs.Heads.{words_head}
 use Rattle.text.specs.Meaning.{Meaning, meaning}
@@ -18,7 +18,7 @@ pub record BookOf (text : List ℕ) (b : Book) : Type 0 where
   pub whole : held b ≡ brought text
   pub numbers : Numbers (held b).papers (vec_items b.numbers)
   pub indexed : AllIndexed (held b).papers (vec_items b.indexes)
-  pub readable : b.all_read ≡ true → All Readable (lines text)
+  pub readable : b.all_read ≡ true ↔ All Readable (lines text)
 
 -- how many of a text's papers have been passed: the others are those of the lines that are left, which are readable
 pub record Left (papers : List (List ℕ)) (passed : ℕ) (rest : List (List ℕ)) : Type 0 where

@@ -2,7 +2,7 @@ use Rattle.std.proofs.Common.{◌-◌, true, false, sym, subst, refl, arith}
 use Rattle.std.proofs.lemmas.Grind.{common_steps}
 use Rattle.format.proofs.Bytes.{all_bytes_from}
 use Rattle.element.specs.inner.Rests.{Leaves}
-use Rattle.element.proofs.Steps.{parts_size, readable_end, leaves_primitive, leaves_constructed, leaves_last, leaves_malformed, leaves_too_deep, leaves_shut, decides_start, decides_on, decides_rest, decides_none}
+use Rattle.element.proofs.Steps.{parts_size, leaves_primitive, leaves_constructed, leaves_last, leaves_malformed, leaves_too_deep, leaves_shut, decides_start, decides_on, decides_rest, decides_end, decides_none}
 use Rattle.element.proofs.judging.Reader.+row_element.Goals as goal
 
 pub element-returns-in_err-tag : goal.element-returns-in_err-tag
@@ -20,17 +20,17 @@ element-returns-then-is_empty t c =
 
 pub element-returns-then-is_empty-2 : goal.element-returns-then-is_empty-2
 element-returns-then-is_empty-2 t c =
-    leaves_constructed _ _ c.in_ok-tag.ensures _ (c.args.depth - 1) (omega arith) (omega arith) (all_bytes_from c.args.bytes.now (λ i. (c.type_inv.bytes i).fits)) (c.past_short-inner.ensures.decides _ true (readable_end _ _ (grind (arith, common_steps))))
+    leaves_constructed _ _ c.in_ok-tag.ensures _ (c.args.depth - 1) (omega arith) (omega arith) (all_bytes_from c.args.bytes.now (λ i. (c.type_inv.bytes i).fits)) (decides_end _ _ _ c.past_short-inner.ensures (grind (arith, common_steps)))
 
 pub element-row-requires : goal.element-row-requires
-element-row-requires t c = omega (arith, c.past_short-inner.ensures.shorter, parts_size _ _ c.in_ok-tag.ensures)
+element-row-requires t c = omega (arith, c.past_short-inner.ensures.within, parts_size _ _ c.in_ok-tag.ensures)
 
 pub element-returns-then-not-row : goal.element-returns-then-not-row
-element-returns-then-not-row t c = leaves_malformed _ _ c.in_ok-tag.ensures _ _ (omega arith) (omega arith) (c.past_short-inner.ensures.decides _ false c.if-not-row.ensures)
+element-returns-then-not-row t c = leaves_malformed _ _ c.in_ok-tag.ensures _ _ (omega arith) (omega arith) (c.past_short-inner.ensures.same false c.if-not-row.ensures)
 
 pub element-returns : goal.element-returns
 element-returns t c =
-    leaves_constructed _ _ c.in_ok-tag.ensures _ _ (omega arith) (omega arith) (all_bytes_from c.args.bytes.now (λ i. (c.type_inv.bytes i).fits)) (c.past_short-inner.ensures.decides _ true c.if-not-row.ensures)
+    leaves_constructed _ _ c.in_ok-tag.ensures _ _ (omega arith) (omega arith) (all_bytes_from c.args.bytes.now (λ i. (c.type_inv.bytes i).fits)) (c.past_short-inner.ensures.same true c.if-not-row.ensures)
 
 pub row-loop-rest-init : goal.row-loop-rest-init
 row-loop-rest-init t c = decides_start _ _ _ refl refl (all_bytes_from c.args.bytes.now (λ i. (c.type_inv.bytes i).fits))
