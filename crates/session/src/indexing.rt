@@ -9,7 +9,7 @@ use crate::Book;
 use element::{Index, piece};
 use std::alloc::{AllocError, Global};
 
-// The index of the elements of some bytes. Its box is made before its entries, so that nothing stands behind these in memory: once they are dropped, their place can be a part of a larger one.
+// The index of the elements of some bytes. Its box is made before its entries, so that it doesn't stand behind these in memory: once an index is dropped, less keeps its place from being a part of a larger one.
 fn index_of(heap: Global, bytes: &[u8]) -> Result<Box<Index>, AllocError>
     ensures { IfOk result (λ i. IndexOf bytes.now i.value) }
 {

@@ -13,8 +13,8 @@ use std::alloc::{AllocError, Global};
 use text::{Head, read_head};
 
 impl Book {
-    // The answer to the line whose turn it is, by its number, put behind the bytes; and how many papers have been passed then.
-    // Lines that begin as ones that bring something are read again only where one of them can't be read.
+    // The answer to the line whose turn it is, by its number, put behind the bytes; and how many papers have been passed then, which is counted only where all lines that bring something could be read.
+    // Where one of them couldn't, they are read again.
     pub(crate) fn answer_turn(
         &mut self,
         heap: Global,

@@ -20,7 +20,7 @@ AllIndexed papers indexes = (i : ℕ) → i < length indexes → IfSome (slice_i
 abbrev pub held : Book → Brought
 held b = record { papers = map vec_items (vec_items b.papers); seals = vec_items b.seals; trusted = vec_items b.trusted }
 
--- a book holds what it held, and each index is that of its paper
+-- a book holds what it held, with the same numbers, and each index is that of its paper
 pub record SameHeld (was is : Book) : Type 0 where
   pub indexed : AllIndexed (held is).papers (vec_items is.indexes)
   pub held : held is ≡ held was
