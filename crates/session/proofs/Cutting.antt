@@ -11,7 +11,7 @@ use Rattle.session.specs.declared.error.AnswerError.TheVariants.{Memory, Write}
 use Rattle.session.specs.Books.{Brought, brought, Numbers}
 use Rattle.session.specs.Answers.{Answered}
 use Rattle.session.specs.Writing.{WritesAnswer}
-use Rattle.session.specs.inner.Held.{AllIndexed, SameHeld, held}
+use Rattle.session.specs.inner.Held.{IndexesOf, SameHeld, held}
 use Rattle.session.specs.inner.Passing.{BookOf, Left}
 use Rattle.session.specs.inner.Puts.{WritesOne}
 use Rattle.session.proofs.Known.{appends_nothing, appends_more, appends_same, keeps_same}
@@ -42,7 +42,7 @@ module _ (text numbers : List ℕ) (book : Brought) (same : book ≡ brought tex
 pub record Turn (text : List ℕ) (book : Book) (passed : ℕ) (n : ℕ) (rest : List (List ℕ)) (old now : Option (List ℕ)) : Type 0 where
   pub whole : held book ≡ brought text
   pub numbers : Numbers (held book).papers (vec_items book.numbers)
-  pub indexed : AllIndexed (held book).papers (vec_items book.indexes)
+  pub indexed : IndexesOf (held book).papers (vec_items book.indexes)
   pub left : book.all_read ≡ true → Left (held book).papers passed rest
   pub said : SoFar text (vec_items book.numbers) n rest old now
 

@@ -6,7 +6,7 @@ ghost use Rattle.text.specs.Texts.{AppendsText, rejection_text};
 ghost use Rattle.text.specs.Meaning.{meaning, says};
 ghost use Rattle.session.specs.Answers.{lent, brought_input, PaperAnswer, PieceAnswer, ChainAnswer, Answered};
 ghost use Rattle.session.specs.Writing.{StoresNothing};
-ghost use Rattle.session.specs.inner.Held.{AllIndexed, SameHeld, held};
+ghost use Rattle.session.specs.inner.Held.{AllIndexed, IndexesOf, SameHeld, held};
 ghost use Rattle.session.specs.inner.Puts.{Puts, PutsIfOk};
 
 use crate::Book;
@@ -46,8 +46,9 @@ impl Book {
         path: &[u64],
         out: &mut Vec<u8>,
     ) -> Result<(), AllocError>
-        requires { AllIndexed (held self.old).papers self.old.indexes.items }
+        requires { IndexesOf (held self.old).papers self.old.indexes.items }
         ensures same { SameHeld self.old self.new }
+        ensures indexed { AllIndexed self.old → self.new.indexes.items ≡ self.old.indexes.items }
         ensures answer { Puts (PieceAnswer (held self.old).papers paper path.now) result out.old.items out.new.items }
     {
         let place = paper as usize;
@@ -111,9 +112,10 @@ impl Book {
         command: Command,
         out: &mut Vec<u8>,
     ) -> Result<(), AllocError>
-        requires { AllIndexed (held self.old).papers self.old.indexes.items }
+        requires { IndexesOf (held self.old).papers self.old.indexes.items }
         ensures quiet { StoresNothing (Some (says command)) → IsOk result }
         ensures same { SameHeld self.old self.new }
+        ensures indexed { AllIndexed self.old → self.new.indexes.items ≡ self.old.indexes.items }
         ensures answer { (n : ℕ) → Puts (Answered (held self.old) self.old.numbers.items n (Some (says command))) result out.old.items out.new.items }
     {
         match command {
@@ -132,9 +134,10 @@ impl Book {
         line: &[u8],
         out: &mut Vec<u8>,
     ) -> Result<(), AllocError>
-        requires { AllIndexed (held self.old).papers self.old.indexes.items }
+        requires { IndexesOf (held self.old).papers self.old.indexes.items }
         ensures quiet { StoresNothing (meaning line.now) → IsOk result }
         ensures same { SameHeld self.old self.new }
+        ensures indexed { AllIndexed self.old → self.new.indexes.items ≡ self.old.indexes.items }
         ensures answer { PutsIfOk (Answered (held self.old) self.old.numbers.items number (meaning line.now)) result out.old.items out.new.items }
     {
         match read_line(heap, line) {

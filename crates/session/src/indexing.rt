@@ -1,9 +1,9 @@
 // The elements of a book's papers, found by their paths.
-ghost use Rattle.std.specs.Prelude.{◌<◌, IfOk, length, option_map};
+ghost use Rattle.std.specs.Prelude.{◌≡◌, ◌<◌, IfOk, length, option_map};
 ghost use Rattle.element.specs.Indexed.{IndexOf};
 ghost use Rattle.element.specs.Located.{Piece};
 ghost use Rattle.session.specs.Books.{paper_at};
-ghost use Rattle.session.specs.inner.Held.{AllIndexed, SameHeld, held};
+ghost use Rattle.session.specs.inner.Held.{AllIndexed, IndexesOf, SameHeld, held};
 
 use crate::Book;
 use element::{Index, piece};
@@ -21,8 +21,9 @@ fn index_of(heap: Global, bytes: &[u8]) -> Result<Box<Index>, AllocError>
 impl Book {
     // Makes a place for the index of each paper, as far as there is memory.
     fn make_places(&mut self)
-        requires { AllIndexed (held self.old).papers self.old.indexes.items }
-        ensures { SameHeld self.old self.new }
+        requires { IndexesOf (held self.old).papers self.old.indexes.items }
+        ensures same { SameHeld self.old self.new }
+        ensures indexed { AllIndexed self.old → self.new.indexes.items ≡ self.old.indexes.items }
     {
         for _ in self.indexes.len()..self.papers.len() {
             if self.indexes.push(None).is_err() {
@@ -34,8 +35,9 @@ impl Book {
     // Notes the elements of a paper unless they are noted. Where memory runs out the paper stays without an index.
     fn note_index(&mut self, heap: Global, place: usize)
         requires there { place < length (held self.old).papers }
-        requires indexed { AllIndexed (held self.old).papers self.old.indexes.items }
-        ensures { SameHeld self.old self.new }
+        requires indexed { IndexesOf (held self.old).papers self.old.indexes.items }
+        ensures same { SameHeld self.old self.new }
+        ensures indexed { AllIndexed self.old → self.new.indexes.items ≡ self.old.indexes.items }
     {
         self.make_places();
         if place < self.indexes.len() && self.indexes[place].is_none() {
@@ -46,8 +48,9 @@ impl Book {
     // Notes the elements of a paper, unless it may be walked through once more.
     pub(crate) fn prepare(&mut self, heap: Global, place: usize)
         requires there { place < length (held self.old).papers }
-        requires indexed { AllIndexed (held self.old).papers self.old.indexes.items }
-        ensures { SameHeld self.old self.new }
+        requires indexed { IndexesOf (held self.old).papers self.old.indexes.items }
+        ensures same { SameHeld self.old self.new }
+        ensures indexed { AllIndexed self.old → self.new.indexes.items ≡ self.old.indexes.items }
     {
         match self.walks.checked_sub(self.papers[place].len()) {
             Some(left) => self.walks = left,
@@ -58,7 +61,7 @@ impl Book {
     // The bytes of the element of a paper that a path leads to, tag and length included; none if there is no such element.
     pub(crate) fn piece(&self, place: usize, path: &[u64]) -> Option<&[u8]>
         requires there { place < length (held self.now).papers }
-        requires indexed { AllIndexed (held self.now).papers self.now.indexes.items }
+        requires indexed { IndexesOf (held self.now).papers self.now.indexes.items }
         ensures { Piece (paper_at (held self.now).papers place) path.now (option_map (λ part. part.now) result) }
     {
         let bytes = &self.papers[place];

@@ -3,7 +3,7 @@ ghost use Rattle.std.specs.Prelude.{[], ◌≡◌, ℕ, ◌∷◌, List, true, I
 ghost use Rattle.text.specs.Meaning.{meaning};
 ghost use Rattle.session.specs.Answers.{Answered};
 ghost use Rattle.session.specs.Writing.{StoresNothing};
-ghost use Rattle.session.specs.inner.Held.{AllIndexed, SameHeld, held};
+ghost use Rattle.session.specs.inner.Held.{IndexesOf, SameHeld, held};
 ghost use Rattle.session.specs.inner.Passing.{Left};
 ghost use Rattle.session.specs.inner.Puts.{PutsIfOk};
 
@@ -23,7 +23,7 @@ impl Book {
         passed: usize,
         out: &mut Vec<u8>,
     ) -> Result<usize, AllocError>
-        requires indexed { AllIndexed (held self.old).papers self.old.indexes.items }
+        requires indexed { IndexesOf (held self.old).papers self.old.indexes.items }
         requires left { self.old.all_read ≡ true → (rest : List (List ℕ)) × Left (held self.old).papers passed (line.now ∷ rest) }
         ensures quiet { StoresNothing (meaning line.now) → IsOk result }
         ensures same { SameHeld self.old self.new }
@@ -56,7 +56,7 @@ impl Book {
         passed: usize,
         out: &mut Vec<u8>,
     ) -> Result<usize, AllocError>
-        requires indexed { AllIndexed (held self.old).papers self.old.indexes.items }
+        requires indexed { IndexesOf (held self.old).papers self.old.indexes.items }
         requires left { self.old.all_read ≡ true → (rest : List (List ℕ)) × Left (held self.old).papers passed (line.now ∷ rest) }
         ensures quiet { StoresNothing (meaning line.now) → IsOk result }
         ensures same { SameHeld self.old self.new }

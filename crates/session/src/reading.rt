@@ -3,7 +3,7 @@ ghost use Rattle.std.specs.Prelude.{◌≡◌, [], true, ◌&&◌, is_some, IfOk
 ghost use Rattle.text.specs.Meaning.{meaning, says};
 ghost use Rattle.session.specs.Books.{nothing_brought, brings};
 ghost use Rattle.session.specs.Writing.{StoresNothing, NothingStored};
-ghost use Rattle.session.specs.inner.Held.{added, held};
+ghost use Rattle.session.specs.inner.Held.{AllIndexed, added, held};
 ghost use Rattle.session.specs.inner.Passing.{BookOf};
 
 use crate::Book;
@@ -17,6 +17,7 @@ const WALKS: usize = 16;
 impl Book {
     // A book of nothing, for a text of some bytes.
     fn new(heap: Global, size: usize) -> Book
+        ensures indexed { AllIndexed result }
         ensures no_index { result.indexes.items ≡ [] }
         ensures held { held result ≡ nothing_brought }
         ensures all_read { result.all_read ≡ true }

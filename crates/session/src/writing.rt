@@ -4,7 +4,7 @@ ghost use Rattle.std.specs.Io.KnownBytes.{Keeps};
 ghost use Rattle.text.specs.Meaning.{meaning};
 ghost use Rattle.session.specs.Answers.{Answered};
 ghost use Rattle.session.specs.Writing.{NothingStored, StoresNothing, WritesAnswer};
-ghost use Rattle.session.specs.inner.Held.{AllIndexed, SameHeld, held};
+ghost use Rattle.session.specs.inner.Held.{IndexesOf, SameHeld, held};
 ghost use Rattle.session.specs.inner.Passing.{BookOf, Left};
 ghost use Rattle.session.specs.inner.Puts.{WritesFront, WritesOne};
 
@@ -50,7 +50,7 @@ impl Book {
         buffer: &mut Vec<u8>,
         out: &mut W,
     ) -> Result<usize, AnswerError>
-        requires indexed { AllIndexed (held self.old).papers self.old.indexes.items }
+        requires indexed { IndexesOf (held self.old).papers self.old.indexes.items }
         requires left { self.old.all_read ≡ true → (rest : List (List ℕ)) × Left (held self.old).papers passed (line.now ∷ rest) }
         ensures quiet { StoresNothing (meaning line.now) → IsOk result × Keeps (W.contents out.old) (W.contents out.new) }
         ensures same { SameHeld self.old self.new }

@@ -65,6 +65,30 @@ mod tests {
     }
 
     #[test]
+    fn each_paper_asked_about_many_times(rt: HostRuntime) -> Result<(), Fail> {
+        let heap = rt.alloc();
+        let mut text = Vec::new(heap);
+        let mut whole = Vec::new(heap);
+        for _ in 0..2 {
+            text.extend_from_slice(b"paper ")?;
+            for _ in 0..150 {
+                text.extend_from_slice(b"01020708")?;
+                whole.extend_from_slice(b"01 07 08\n")?;
+            }
+            text.push(b'\n')?;
+        }
+        for _ in 0..200 {
+            text.extend_from_slice(b"piece 0 149\npiece 1 149\n")?;
+            whole.extend_from_slice(b"01 02 07 08\n01 02 07 08\n")?;
+        }
+        text.extend_from_slice(b"trusted 1\nnonsense\npiece 0 150\npiece 2 0\nchain 0 day 1\n")?;
+        whole.extend_from_slice(b"refused 5 at 403\nnone\nrefused 3 at 2\nrefused 1 at 0\n")?;
+        let said = answers(heap, &text)?;
+        assert!(rt; said.as_slice() == whole.as_slice());
+        Ok(())
+    }
+
+    #[test]
     fn a_writer_that_fails(rt: HostRuntime) -> Result<(), Fail> {
         let heap = rt.alloc();
         let text = b"paper 010141\nseals 2\nchain 0 day 1\npiece 0 0\npiece 1 0\nnonsense\n";

@@ -1,5 +1,5 @@
 -- What a book in memory holds.
-use Rattle.std.specs.Prelude.{◌≡◌, ℕ, ◌≤◌, List, ◌++◌, length, map, slice_index, slice_index_or, vec_items, None, Option, Box, IfSome, ◌<◌}
+use Rattle.std.specs.Prelude.{◌≡◌, ℕ, ◌≤◌, List, ◌++◌, length, map, slice_index, slice_index_or, vec_items, None, Option, Box, IfSome, IsSome, ◌<◌}
 use Rattle.element.specs.Indexed.{IndexOf}
 use Rattle.trust.specs.Chains.{Certificate}
 use Rattle.session.specs.declared.Book.{Book}
@@ -13,16 +13,21 @@ abbrev pub added : Brought → Brought → Brought
 added a b = record { papers = a.papers ++ b.papers; seals = a.seals ++ b.seals; trusted = a.trusted ++ b.trusted }
 
 -- an index, if there is one, is that of the paper at its place
-abbrev pub AllIndexed : {Z : Type 0} (papers : List (List ℕ)) → (indexes : List (Option (Box Index Z))) → Type 0
-AllIndexed papers indexes = (i : ℕ) → i < length indexes → IfSome (slice_index_or indexes i None) (λ x. IndexOf (paper_at papers i) x.value)
+abbrev pub IndexesOf : {Z : Type 0} (papers : List (List ℕ)) → (indexes : List (Option (Box Index Z))) → Type 0
+IndexesOf papers indexes = (i : ℕ) → i < length indexes → IfSome (slice_index_or indexes i None) (λ x. IndexOf (paper_at papers i) x.value)
 
 -- the bytes of the papers in memory, and the marks
 abbrev pub held : Book → Brought
 held b = record { papers = map vec_items (vec_items b.papers); seals = vec_items b.seals; trusted = vec_items b.trusted }
 
+-- each paper has its index
+pub record AllIndexed (b : Book) : Type 0 where
+  pub theirs : IndexesOf (held b).papers (vec_items b.indexes)
+  pub each : (i : ℕ) → i < length (held b).papers → IsSome (slice_index_or (vec_items b.indexes) i None)
+
 -- a book holds what it held, with the same numbers, and each index is that of its paper
 pub record SameHeld (was is : Book) : Type 0 where
-  pub indexed : AllIndexed (held is).papers (vec_items is.indexes)
+  pub indexed : IndexesOf (held is).papers (vec_items is.indexes)
   pub held : held is ≡ held was
   pub numbers : vec_items is.numbers ≡ vec_items was.numbers
   pub all_read : is.all_read ≡ was.all_read

@@ -7,7 +7,7 @@ use Rattle.text.specs.Tokens.{lines, words}
 use Rattle.text.specs.declared.command.Head.TheVariants as head
 use Rattle.session.specs.declared.Book.{Book}
 use Rattle.session.specs.Books.{brought_by, brought, Numbers}
-use Rattle.session.specs.inner.Held.{AllIndexed, held}
+use Rattle.session.specs.inner.Held.{IndexesOf, held}
 
 -- a line can be read, if it begins as one that brings something
 abbrev pub Readable : List ℕ → Type 0
@@ -17,7 +17,7 @@ Readable line = (words_head (words line) ≡ head.Other → ⊥) → (m : Meanin
 pub record BookOf (text : List ℕ) (b : Book) : Type 0 where
   pub whole : held b ≡ brought text
   pub numbers : Numbers (held b).papers (vec_items b.numbers)
-  pub indexed : AllIndexed (held b).papers (vec_items b.indexes)
+  pub indexed : IndexesOf (held b).papers (vec_items b.indexes)
   pub readable : b.all_read ≡ true ↔ All Readable (lines text)
 
 -- how many of a text's papers have been passed: the others are those of the lines that are left, which are readable

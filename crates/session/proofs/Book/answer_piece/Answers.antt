@@ -10,7 +10,7 @@ use Rattle.session.proofs.Book.answer_piece.Goals.{After-piece}
 -- what the path leads to in the paper
 at_paper : (c : After-piece) (o : Option (List ℕ)) → Piece (paper_at (held c.prepare.new.self).papers c.args.paper) c.args.path.now o → PieceAnswer (held c.args.self.now).papers c.args.paper c.args.path.now (part_text o)
 at_paper c o piece =
-    there (omega (arith, c.if-place-len.false, papers_count c.args.self.now.papers)) o (subst (λ b. Piece (paper_at b.papers c.args.paper) c.args.path.now o) c.prepare.ensures.held piece)
+    there (omega (arith, c.if-place-len.false, papers_count c.args.self.now.papers)) o (subst (λ b. Piece (paper_at b.papers c.args.paper) c.args.path.now o) c.prepare.ensures.same.held piece)
 
 pub returns-then-place-len-clause-answer : goal.returns-then-place-len-clause-answer
 returns-then-place-len-clause-answer c = (_, no_paper (omega (arith, c.if-place-len.true, papers_count c.args.self.now.papers)), c.reject.ensures)
