@@ -1,5 +1,5 @@
 -- What is left of a text when one more line is answered.
-use Rattle.std.proofs.Common.{◌≡◌, ℕ, ◌+◌, ◌<◌, List, [], ◌∷◌, ◌++◌, length, Some, Option, refl, sym, ap, ◌∙◌, subst, append_assoc, length-append, arith}
+use Rattle.std.proofs.Common.{◌≡◌, ℕ, Bool, true, IfOk, ◌+◌, ◌<◌, List, [], ◌∷◌, ◌++◌, length, Some, Option, Result, refl, sym, ap, ◌∙◌, subst, append_assoc, length-append, arith}
 use Rattle.std.proofs.Math.Seq.{get_or-append_seam}
 use Rattle.std.proofs.lemmas.List.Elements.{All-head, All-tail}
 use Rattle.text.specs.Heads.{head_of, words_head}
@@ -89,3 +89,11 @@ module _ (papers : List (List ℕ)) (passed : ℕ) (line : List ℕ) (rest : Lis
 
     pub paper_answer : (b : Brought) (numbers : List ℕ) (n : ℕ) (text : List ℕ) → PaperAnswer (paper_at papers passed) text → Answered b numbers n (meaning line) text
     paper_answer b numbers n text a = subst (λ o. Answered b numbers n o text) (sym paper_read.1) (subst (λ bytes. PaperAnswer bytes text) paper_is a)
+
+-- p papers have been passed once a line is answered, if each line that brings something could be read
+abbrev Goes : (b : Brought) (all_read : Bool) (passed : ℕ) (line : List ℕ) (p : ℕ) → Type 0
+Goes b all_read passed line p = all_read ≡ true → (rest : List (List ℕ)) → Left b.papers passed (line ∷ rest) → Left b.papers p rest
+
+-- so it is of a book that holds the same
+pub passed_same : {E : Type 0} (was is : Brought) (old new : Bool) (passed : ℕ) (line : List ℕ) (r : Result ℕ E) → is ≡ was → new ≡ old → IfOk r (Goes is new passed line) → IfOk r (Goes was old passed line)
+passed_same was is old new passed line r same read k = subst (λ b. IfOk r (Goes b old passed line)) same (subst (λ t. IfOk r (Goes is t passed line)) read k)

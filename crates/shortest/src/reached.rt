@@ -1,7 +1,6 @@
 // The search from below: which certificates have been reached.
-ghost use Rattle.std.specs.Prelude.{◌≡◌, ◌+◌, ◌^◌, ◌<◌, replicate, slice_index, slice_set};
+ghost use Rattle.std.specs.Prelude.{◌≡◌, ℕ, ◌+◌, ◌^◌, ◌<◌, replicate, slice_index, slice_set};
 ghost use Rattle.chain.specs.Inputs.{most};
-ghost use Rattle.shortest.specs.inner.Steps.{far, from, step_of};
 
 use chain::MOST;
 
@@ -23,9 +22,12 @@ pub struct Steps {
     layers: [u8; MOST],
     // The certificate below; 0 for one that was not reached.
     belows: [u8; MOST],
+    ghost unreached: { (a : ℕ) → a < most → slice_index layers a ≡ 0 → slice_index belows a ≡ 0 },
 }
 
 impl Steps {
+    ghost use Rattle.shortest.specs.inner.Steps.{far, from, step_of};
+
     // Only the certificate `first` is reached, in layer 0.
     fn begin(first: usize) -> Steps
         requires { first < most }

@@ -7,7 +7,7 @@ use Rattle.shortest.specs.declared.reached.Steps.{Steps}
 abbrev pub far : Steps → List ℕ
 far s = s.layers
 
--- the certificate below each, or 0 for one not reached
+-- the certificate below each, or 0 for one not reached (`unreached` in `Steps`)
 abbrev pub from : Steps → List ℕ
 from s = s.belows
 
