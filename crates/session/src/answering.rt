@@ -6,7 +6,7 @@ ghost use Rattle.text.specs.Texts.{AppendsText, rejection_text};
 ghost use Rattle.text.specs.Meaning.{meaning, says};
 ghost use Rattle.session.specs.Answers.{lent, brought_input, PaperAnswer, PieceAnswer, ChainAnswer, Answered};
 ghost use Rattle.session.specs.Writing.{StoresNothing};
-ghost use Rattle.session.specs.inner.Held.{AllIndexed, IndexesOf, SameHeld, held};
+ghost use Rattle.session.specs.inner.Held.{IndexesOf, KeepsIndexes, SameHeld, held};
 ghost use Rattle.session.specs.inner.Puts.{Puts, PutsIfOk};
 
 use crate::Book;
@@ -48,7 +48,7 @@ impl Book {
     ) -> Result<(), AllocError>
         requires { IndexesOf (held self.old).papers self.old.indexes.items }
         ensures same { SameHeld self.old self.new }
-        ensures indexed { AllIndexed self.old → self.new.indexes.items ≡ self.old.indexes.items }
+        ensures indexed { KeepsIndexes self.old self.new }
         ensures answer { Puts (PieceAnswer (held self.old).papers paper path.now) result out.old.items out.new.items }
     {
         let place = paper as usize;
@@ -115,7 +115,7 @@ impl Book {
         requires { IndexesOf (held self.old).papers self.old.indexes.items }
         ensures quiet { StoresNothing (Some (says command)) → IsOk result }
         ensures same { SameHeld self.old self.new }
-        ensures indexed { AllIndexed self.old → self.new.indexes.items ≡ self.old.indexes.items }
+        ensures indexed { KeepsIndexes self.old self.new }
         ensures answer { (n : ℕ) → Puts (Answered (held self.old) self.old.numbers.items n (Some (says command))) result out.old.items out.new.items }
     {
         match command {
@@ -137,7 +137,7 @@ impl Book {
         requires { IndexesOf (held self.old).papers self.old.indexes.items }
         ensures quiet { StoresNothing (meaning line.now) → IsOk result }
         ensures same { SameHeld self.old self.new }
-        ensures indexed { AllIndexed self.old → self.new.indexes.items ≡ self.old.indexes.items }
+        ensures indexed { KeepsIndexes self.old self.new }
         ensures answer { PutsIfOk (Answered (held self.old) self.old.numbers.items number (meaning line.now)) result out.old.items out.new.items }
     {
         match read_line(heap, line) {

@@ -1,9 +1,9 @@
 // The elements of a book's papers, found by their paths.
-ghost use Rattle.std.specs.Prelude.{◌≡◌, ◌<◌, IfOk, length, option_map};
+ghost use Rattle.std.specs.Prelude.{◌<◌, IfOk, length, option_map};
 ghost use Rattle.element.specs.Indexed.{IndexOf};
 ghost use Rattle.element.specs.Located.{Piece};
 ghost use Rattle.session.specs.Books.{paper_at};
-ghost use Rattle.session.specs.inner.Held.{AllIndexed, IndexesOf, SameHeld, held};
+ghost use Rattle.session.specs.inner.Held.{IndexesOf, KeepsIndexes, SameHeld, held};
 
 use crate::Book;
 use element::{Index, piece};
@@ -23,7 +23,7 @@ impl Book {
     fn make_places(&mut self)
         requires { IndexesOf (held self.old).papers self.old.indexes.items }
         ensures same { SameHeld self.old self.new }
-        ensures indexed { AllIndexed self.old → self.new.indexes.items ≡ self.old.indexes.items }
+        ensures indexed { KeepsIndexes self.old self.new }
     {
         for _ in self.indexes.len()..self.papers.len() {
             if self.indexes.push(None).is_err() {
@@ -37,7 +37,7 @@ impl Book {
         requires there { place < length (held self.old).papers }
         requires indexed { IndexesOf (held self.old).papers self.old.indexes.items }
         ensures same { SameHeld self.old self.new }
-        ensures indexed { AllIndexed self.old → self.new.indexes.items ≡ self.old.indexes.items }
+        ensures indexed { KeepsIndexes self.old self.new }
     {
         self.make_places();
         if place < self.indexes.len() && self.indexes[place].is_none() {
@@ -50,7 +50,7 @@ impl Book {
         requires there { place < length (held self.old).papers }
         requires indexed { IndexesOf (held self.old).papers self.old.indexes.items }
         ensures same { SameHeld self.old self.new }
-        ensures indexed { AllIndexed self.old → self.new.indexes.items ≡ self.old.indexes.items }
+        ensures indexed { KeepsIndexes self.old self.new }
     {
         match self.walks.checked_sub(self.papers[place].len()) {
             Some(left) => self.walks = left,

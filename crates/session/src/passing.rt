@@ -3,7 +3,7 @@ ghost use Rattle.std.specs.Prelude.{[], ◌≡◌, ℕ, ◌∷◌, List, true, I
 ghost use Rattle.text.specs.Meaning.{meaning};
 ghost use Rattle.session.specs.Answers.{Answered};
 ghost use Rattle.session.specs.Writing.{StoresNothing};
-ghost use Rattle.session.specs.inner.Held.{AllIndexed, IndexesOf, SameHeld, held};
+ghost use Rattle.session.specs.inner.Held.{IndexesOf, KeepsIndexes, SameHeld, held};
 ghost use Rattle.session.specs.inner.Passing.{Left};
 ghost use Rattle.session.specs.inner.Puts.{PutsIfOk};
 
@@ -27,7 +27,7 @@ impl Book {
         requires left { self.old.all_read ≡ true → (rest : List (List ℕ)) × Left (held self.old).papers passed (line.now ∷ rest) }
         ensures quiet { StoresNothing (meaning line.now) → IsOk result }
         ensures same { SameHeld self.old self.new }
-        ensures indexed { AllIndexed self.old → self.new.indexes.items ≡ self.old.indexes.items }
+        ensures indexed { KeepsIndexes self.old self.new }
         ensures answer { PutsIfOk (Answered (held self.old) self.old.numbers.items number (meaning line.now)) result out.old.items out.new.items }
         ensures passed { IfOk result (λ p. self.old.all_read ≡ true → (rest : List (List ℕ)) → Left (held self.old).papers passed (line.now ∷ rest) → Left (held self.old).papers p rest) }
     {
@@ -61,7 +61,7 @@ impl Book {
         requires left { self.old.all_read ≡ true → (rest : List (List ℕ)) × Left (held self.old).papers passed (line.now ∷ rest) }
         ensures quiet { StoresNothing (meaning line.now) → IsOk result }
         ensures same { SameHeld self.old self.new }
-        ensures indexed { StoresNothing (meaning line.now) → AllIndexed self.old → self.new.indexes.items ≡ self.old.indexes.items }
+        ensures indexed { StoresNothing (meaning line.now) → KeepsIndexes self.old self.new }
         ensures answer { PutsIfOk (Answered (held self.old) self.old.numbers.items number (meaning line.now)) result [] out.new.items }
         ensures passed { IfOk result (λ p. self.old.all_read ≡ true → (rest : List (List ℕ)) → Left (held self.old).papers passed (line.now ∷ rest) → Left (held self.old).papers p rest) }
     {

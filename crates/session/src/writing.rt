@@ -4,7 +4,7 @@ ghost use Rattle.std.specs.Io.KnownBytes.{Keeps};
 ghost use Rattle.text.specs.Meaning.{meaning};
 ghost use Rattle.session.specs.Answers.{Answered};
 ghost use Rattle.session.specs.Writing.{NothingStored, StoresNothing, WritesAnswer};
-ghost use Rattle.session.specs.inner.Held.{AllIndexed, IndexesOf, SameHeld, held};
+ghost use Rattle.session.specs.inner.Held.{IndexesOf, KeepsIndexes, SameHeld, held};
 ghost use Rattle.session.specs.inner.Passing.{BookOf, Left};
 ghost use Rattle.session.specs.inner.Puts.{WritesFront, WritesOne};
 
@@ -54,7 +54,7 @@ impl Book {
         requires left { self.old.all_read ≡ true → (rest : List (List ℕ)) × Left (held self.old).papers passed (line.now ∷ rest) }
         ensures quiet { StoresNothing (meaning line.now) → IsOk result × Keeps (W.contents out.old) (W.contents out.new) }
         ensures same { SameHeld self.old self.new }
-        ensures indexed { StoresNothing (meaning line.now) → AllIndexed self.old → self.new.indexes.items ≡ self.old.indexes.items }
+        ensures indexed { StoresNothing (meaning line.now) → KeepsIndexes self.old self.new }
         ensures written { WritesOne (Answered (held self.old) self.old.numbers.items number (meaning line.now)) result (W.contents out.old) (W.contents out.new) }
         ensures passed { IfOk result (λ p. self.old.all_read ≡ true → (rest : List (List ℕ)) → Left (held self.old).papers passed (line.now ∷ rest) → Left (held self.old).papers p rest) }
     {

@@ -25,6 +25,10 @@ pub record AllIndexed (b : Book) : Type 0 where
   pub theirs : IndexesOf (held b).papers (vec_items b.indexes)
   pub each : (i : ℕ) → i < length (held b).papers → IsSome (slice_index_or (vec_items b.indexes) i None)
 
+-- where each paper had its index, the indexes are those that they were
+abbrev pub KeepsIndexes : (was is : Book) → Type 0
+KeepsIndexes was is = AllIndexed was → vec_items is.indexes ≡ vec_items was.indexes
+
 -- a book holds what it held, with the same numbers, and each index is that of its paper
 pub record SameHeld (was is : Book) : Type 0 where
   pub indexed : IndexesOf (held is).papers (vec_items is.indexes)
